@@ -5,6 +5,7 @@ import sys
 import tempfile
 import time
 
+import at_places
 import backups
 import changes
 import crafted
@@ -54,7 +55,7 @@ LIMIT = 600
 GROUPS = (
     words, sentences, documents, terminal, examples, exports, long_texts, streams, locks, lost_files, full_disk, ending, crafted, formats, long_runs,
     damage, each_byte, kills, device_calls, tokens, typed_memory, memory, serving, served_limits, journal, web_pages, last_place, peers, places, changes, edits,
-    watching, web_sockets, parting, put_back, backups, parted_files, idle_links, rude, noise, worst, session_memory, renewal,
+    at_places, watching, web_sockets, parting, put_back, backups, parted_files, idle_links, rude, noise, worst, session_memory, renewal,
 )
 
 

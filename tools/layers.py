@@ -20,7 +20,7 @@ ROWS = (
     ),
     (("a hub: what a lock guards, and the part that commits", "#fff8e1", "shared_hub locked_replica hub_parts recovery pass_books"),),
     (
-        ("a replica and its documents", "#fff3e0", "replica_core doc_core span_flatten mark_anchors char_sequence comment_marks edit_tokens"),
+        ("a replica and its documents", "#fff3e0", "replica_core doc_core span_flatten mark_anchors char_sequence comment_marks edit_tokens placed_edits"),
         ("the store in a file", "#fbe9e7", "group_commit root_slots page_file disk_trait"),
     ),
     (

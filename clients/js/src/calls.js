@@ -1,6 +1,6 @@
 /** The requests that make up one call of a document. */
 
-import { cut, linesOf } from "./action.js";
+import { cut } from "./action.js";
 import { Refused, refused } from "./refusals.js";
 import { LONGEST, MOST } from "./rules.js";
 
@@ -26,7 +26,7 @@ export function parts(all) {
 
 /**
  * The edits that take a stretch away.
- * @param {number} at
+ * @param {import("./action.js").Place} at
  * @param {number} count
  * @returns {Generator<Part, void>}
  */
@@ -40,13 +40,12 @@ export function* stretches(at, count) {
 
 /**
  * The lines that make edits at once.
- * @param {Iterable<Piece>} pieces
- * @param {boolean} parted
+ * @param {Iterable<Piece[]>} pieces those of each
  * @returns {Generator<Part, void>}
  */
-export function* lines(pieces, parted) {
+export function* lines(pieces) {
   let made = 0;
-  for (const line of linesOf(pieces, parted)) {
+  for (const line of pieces) {
     yield { fields: { op: "edits", edits: line.map(({ edit }) => edit) }, made, numbers: line.map(({ number }) => number) };
     made += line.length;
   }

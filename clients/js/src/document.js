@@ -1,20 +1,22 @@
 /** A document of a session. */
 
 import { givenOf, throwIfAborted } from "./aborting.js";
-import { cut, piecesOf } from "./action.js";
-import { needDigest, tokenAfter } from "./again.js";
+import { BEYOND, byNumbers, cut, linesOf, needsNumber, piecesOf } from "./action.js";
+import { NEVER, needDigest, newToken, tokenAfter } from "./again.js";
 import { lines, naming, parts, stretches } from "./calls.js";
 import { keyOf } from "./marks.js";
 import { Reading } from "./reading.js";
 import { Stale } from "./refusals.js";
-import { isWhole } from "./rules.js";
+import { LONGEST, isLasting, isWhole, lastingOf } from "./rules.js";
 
 /** How often places of several requests are asked for, until all are answered at one `rev`. */
 const ROUNDS = 8;
 
 /**
  * @typedef {import("./aborting.js").Abortable} Abortable
- * @typedef {import("./action.js").Edit} Edit
+ * @typedef {import("./action.js").Lasting} Lasting
+ * @typedef {import("./action.js").Place} Place
+ * @typedef {import("./action.js").PlacedEdit} PlacedEdit
  * @typedef {import("./again.js").Request} Request
  * @typedef {import("./calls.js").Part} Part
  * @typedef {import("./changing.js").Changes} Changes
@@ -51,12 +53,17 @@ const ROUNDS = 8;
  * edits that are counted as JavaScript's strings are. An edit may name the `rev` that it was made for, which this session
  * has to have read.
  *
+ * In place of a number an edit may be given the name of a place that lasts, as `anchor` tells it: then it is made where that
+ * is by then, whatever others did meanwhile, and needs no `rev`.
+ *
  * Each edit answers the document's new `rev` once it is settled on the disk: it then outlives a power cut.
  *
  * An edit is of at most 256 characters. An `insert` of more is made at once too, as far as one line takes it, which are 64
  * KiB. A longer one goes as several lines, each of which is answered before the next one is sent, and a `delete` of more
  * than 256 characters as several edits. If anybody edits the document in between, the next one is `Stale`, and those before
- * it are made. The tokens of all but the first follow from the one that is given.
+ * it are made. The tokens of all but the first follow from the one that is given. At a place that lasts some of these are made
+ * by numbers, in just the text in which the place was asked for: where it takes several lines, and where a long text comes just
+ * after a character. If others edit meanwhile it is asked for again, up to eight times, and then `Stale`.
  *
  * A call whose `signal` is aborted rejects with the signal's reason. What was sent by then may be made, and nothing more of
  * the call is sent; an edit with a token of the caller's may be sent again.
@@ -73,7 +80,7 @@ export class Document {
 
   /**
    * Puts characters before the one at a place, or at the end.
-   * @param {number} at
+   * @param {Place} at
    * @param {string} text
    * @param {number | EditOptions} [rev]
    * @param {string | EditOptions} [token]
@@ -81,27 +88,30 @@ export class Document {
    */
   insert(at, text, rev, token, options) {
     const given = givenOf({ rev, token }, options);
-    const [first, ...others] = cut({ op: "insert", at, text });
-    if (others.length === 0) return this.edit(first, given);
-    return this.#editAll(lines([first, ...others].map((edit) => ({ edit })), true), given);
+    /** @type {PlacedEdit} */
+    const edit = { op: "insert", at, text };
+    const [, ...others] = cut(edit);
+    return others.length > 0 || needsNumber(edit) ? this.#make([edit], true, given) : this.edit(edit, given);
   }
 
   /**
    * Takes characters away from a place on.
-   * @param {number} at
+   * @param {Place} at
    * @param {number} count
    * @param {number | EditOptions} [rev]
    * @param {string | EditOptions} [token]
    * @param {EditOptions} [options]
    */
   delete(at, count, rev, token, options) {
-    return this.#editAll(stretches(at, count), givenOf({ rev, token }, options));
+    const given = givenOf({ rev, token }, options);
+    if (isLasting(at) && isWhole(count, LONGEST + 1)) return this.#make([{ op: "delete", at, count }], true, given);
+    return this.#editAll(stretches(at, count), given);
   }
 
   /**
    * Marks the characters from a place up to another, that one not included.
-   * @param {number} from
-   * @param {number} to
+   * @param {Place} from
+   * @param {Place} to
    * @param {Mark} mark
    * @param {number | EditOptions} [rev]
    * @param {string | EditOptions} [token]
@@ -113,8 +123,8 @@ export class Document {
 
   /**
    * Takes a mark away from the characters from a place up to another, that one not included.
-   * @param {number} from
-   * @param {number} to
+   * @param {Place} from
+   * @param {Place} to
    * @param {Mark} mark
    * @param {number | EditOptions} [rev]
    * @param {string | EditOptions} [token]
@@ -131,7 +141,7 @@ export class Document {
    * One line takes 1,024 edits of at most 256 characters (a longer one is several of them), and 65,536 bytes. More is a
    * `RangeError`, and nothing is sent; with `parted` it goes as several lines, each of them all or nothing, as a long
    * `insert` does.
-   * @param {readonly Edit[]} edits
+   * @param {readonly PlacedEdit[]} edits
    * @param {number | ActionOptions} [rev]
    * @param {string | ActionOptions} [token]
    * @param {ActionOptions} [options]
@@ -140,7 +150,7 @@ export class Document {
     const { parted = false, ...given } = givenOf({ rev, token }, options);
     // What is no list of edits is refused as it is.
     if (!Array.isArray(edits) || edits.length === 0) return this.edit({ op: "edits", edits }, given);
-    return this.#editAll(lines(piecesOf(edits), parted), given);
+    return this.#make(edits, parted, given);
   }
 
   /**
@@ -170,6 +180,52 @@ export class Document {
   }
 
   /**
+   * Makes edits at once, or line by line, and gives the last answer.
+   * @param {readonly PlacedEdit[]} edits
+   * @param {boolean} parted
+   * @param {EditOptions} given
+   */
+  async #make(edits, parted, given) {
+    const names = [...new Set(edits.flatMap((edit) => lastingOf(edit).map(([, name]) => name)))];
+    if (names.length === 0) return this.#editAll(lines(linesOf(piecesOf(edits), parted)), given);
+    const all = [...linesOf(piecesOf(edits), parted)];
+    if (all.length === 1 && !all[0].some(({ edit }) => needsNumber(edit))) return this.#editAll(lines(all), given);
+    // What doesn't fit one line and may not be parted is refused before anything is asked.
+    const { length } = [...linesOf(byNumbers(edits, new Map(names.map((name) => [name, 0]))), parted)];
+    if (length > 1 && given.token !== undefined) needDigest();
+    return this.#editThere(edits, names, parted, given);
+  }
+
+  /**
+   * Makes edits at places that last by numbers, in just the text in which these were asked for. If that has moved on, it asks
+   * again.
+   * @param {readonly PlacedEdit[]} edits
+   * @param {string[]} names
+   * @param {boolean} parted
+   * @param {EditOptions} given
+   */
+  async #editThere(edits, names, parted, { rev, token, signal }) {
+    // A line whose answer is lost may be made later on. So it has one token, however often it is sent.
+    const once = token ?? newToken();
+    const before = this.session.parted;
+    this.#needKnown(rev, signal);
+    for (let left = rev === undefined ? ROUNDS : 1; ; left -= 1) {
+      const answers = await this.#askAll(parts(names).map((part) => ({ op: "places", anchors: part })), { signal });
+      const places = answers.flatMap((answer) => answer.places);
+      const read = answers[0].rev;
+      const made = lines(linesOf(byNumbers(edits, new Map(names.map((name, at) => [name, places[at] ?? BEYOND]))), parted));
+      const first = /** @type {Part} */ (made.next().value);
+      // In another text than the one that was named they are other numbers: there it is answered only if it was made before.
+      const isNamed = rev === undefined || (rev === read && before === this.session.parted);
+      const last = await this.edit(first.fields, { rev: isNamed ? read : NEVER, token: once, signal }).catch(naming(first)).catch((error) => {
+        if (!(error instanceof Stale) || left === 1) throw error;
+      });
+      // One that was made before is behind what was asked for, and so its places were others: so it is with the lines after it.
+      if (last !== undefined) return this.#editRest(made, last, { token, signal }, last <= read);
+    }
+  }
+
+  /**
    * Makes parts of a call one after the other, and gives the last answer.
    * @param {Generator<Part, void>} parts
    * @param {EditOptions} given
@@ -177,15 +233,26 @@ export class Document {
    */
   async #editAll(parts, { rev, token, signal }) {
     const first = /** @type {Part} */ (parts.next().value);
-    let next = parts.next();
+    const next = parts.next();
     if (!next.done && token !== undefined) needDigest();
     // This one is sent at once, in its order among other calls.
-    let last = await this.edit(first.fields, { rev, token, signal }).catch(naming(first));
-    while (!next.done) {
-      const part = next.value;
-      const after = token && (await tokenAfter(token, String(part.made)));
-      last = await this.#editNext(part.fields, { rev: last, token: after, signal }).catch(naming(part));
-      next = parts.next();
+    const last = await this.edit(first.fields, { rev, token, signal }).catch(naming(first));
+    return next.done ? last : this.#editRest(after(next.value, parts), last, { token, signal });
+  }
+
+  /**
+   * Makes the parts that are left, each after the one before it was answered.
+   * @param {Iterable<Part>} parts
+   * @param {number} before what the one before them was answered
+   * @param {EditOptions} given
+   * @param {boolean} wasMade whether these were made before, or aren't to be
+   */
+  async #editRest(parts, before, { token, signal }, wasMade = false) {
+    let last = before;
+    for (const part of parts) {
+      const given = { rev: wasMade ? NEVER : last, token: token && (await tokenAfter(token, String(part.made))), signal };
+      const made = wasMade ? this.edit(part.fields, given) : this.#editNext(part.fields, given);
+      last = await made.catch(naming(part));
     }
     return last;
   }
@@ -272,6 +339,7 @@ export class Document {
    * @param {Side | AnchorOptions} [side]
    * @param {number | AnchorOptions} [rev]
    * @param {AnchorOptions} [options]
+   * @returns {Promise<Lasting>}
    */
   async anchor(at, side, rev, options) {
     const [anchor] = await this.anchors([at], side, rev, options);
@@ -285,7 +353,7 @@ export class Document {
    * @param {Side | AnchorOptions} [side]
    * @param {number | AnchorOptions} [rev]
    * @param {AnchorOptions} [options]
-   * @returns {Promise<string[]>}
+   * @returns {Promise<Lasting[]>}
    */
   async anchors(at, side, rev, options) {
     const { side: neighbour = "previous", ...given } = givenOf({ side, rev }, options);
@@ -344,4 +412,15 @@ export class Document {
   async rev(options) {
     return (await this.read(options)).rev;
   }
+}
+
+/**
+ * One more before others.
+ * @template T
+ * @param {T} first
+ * @param {Iterable<T>} others
+ */
+function* after(first, others) {
+  yield first;
+  yield* others;
 }

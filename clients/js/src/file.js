@@ -33,7 +33,7 @@ class Child {
     child.stderr.setEncoding("utf8").on("data", (chunk) => (this.#said += chunk));
     /** @type {Promise<number | string | null>} */
     this.end = new Promise((resolve) => {
-      child.on("error", (error) => resolve(`${error.message}: build the program with \`make peritext\`, and name it by { program }`));
+      child.on("error", (error) => resolve(`${error.message}: build the program with \`make peritext\`, and put it on the path or name it by { program }`));
       child.on("close", resolve);
     });
     this.end.then(() => this.onEnd());

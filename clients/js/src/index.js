@@ -4,6 +4,9 @@
  * The types of what calls take and give.
  * @typedef {import("./aborting.js").Abortable} Abortable
  * @typedef {import("./action.js").Edit} Edit
+ * @typedef {import("./action.js").Lasting} Lasting
+ * @typedef {import("./action.js").Place} Place
+ * @typedef {import("./action.js").PlacedEdit} PlacedEdit
  * @typedef {import("./changing.js").Changes} Changes
  * @typedef {import("./changing.js").Marks} Marks
  * @typedef {import("./changing.js").Step} Step

@@ -1,6 +1,6 @@
 /** What the program answers in place of a result. */
 
-import { areEdits, broken, isLong } from "./rules.js";
+import { areEdits, broken, isLong, isPlaced } from "./rules.js";
 
 const LINE = "the line is no request of docs/PROTOCOL.md; mend what made it";
 const BYTES = "the file isn't what this program wrote; keep a copy, and go on from a peer with a new replica";
@@ -41,6 +41,7 @@ const MEND = "mend what wrote it";
 const FULL = "the file has all the operations, records, documents or replicas that it may have (docs/OPERATING.md, Limits), and can still be read";
 const LONG = "at most 256 characters in one edit; send it in parts";
 const MUCH = `what one action takes away waits together for the disk, 2,048 characters in any file: make several, or let it be parted; else ${FULL}`;
+const PLACE = "an older program takes no places that last in edits; start one that is as new as this client";
 const TOKEN = "an older program knows no `token`; start one that is as new as this client";
 
 /**
@@ -56,7 +57,7 @@ const LATER = new Set(["watch", "changes", "anchors", "places", "edits"]);
  */
 function sentence(number, request) {
   if (number === 3 && request !== undefined && LATER.has(request.op)) return ofFields(request, older(request));
-  if (number === 4 && request !== undefined) return ofFields(request, request.token === undefined ? ADVICE[4] : TOKEN);
+  if (number === 4 && request !== undefined) return ofFields(request, unknownTo(request));
   if (number === 7 && request !== undefined) return ofLimit(request);
   return ADVICE[number];
 }
@@ -75,6 +76,15 @@ function ofLimit(request) {
 function ofFields(request, otherwise) {
   const faults = broken(request);
   return faults.length > 0 ? `${faults.join(", ")}; ${MEND}` : otherwise;
+}
+
+/**
+ * What an older program doesn't know of a request whose fields break no rule.
+ * @param {Record<string, unknown>} request
+ */
+function unknownTo(request) {
+  if (isPlaced(request)) return PLACE;
+  return request.token === undefined ? ADVICE[4] : TOKEN;
 }
 
 /** @param {import("./rules.js").Request} request */

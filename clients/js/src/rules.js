@@ -2,6 +2,11 @@
 
 /** @typedef {Record<string, unknown>} Request */
 
+/**
+ * The text of a place that lasts: the start or the end of the text, or just after or just before a character.
+ * @typedef {"start" | "end" | `a${number}@${string}` | `b${number}@${string}`} Lasting
+ */
+
 /** How many characters one edit may put in, or take away. */
 export const LONGEST = 256;
 
@@ -51,6 +56,9 @@ const OPTIONAL = {
 const ONE = new Set(["insert", "delete", "mark", "unmark"]);
 const ALL = ["doc", "rev", "token"];
 
+/** The fields of an edit that are places of the text. */
+const PLACES = ["at", "from", "to"];
+
 /**
  * What each field has to be, of any request, or of one in particular.
  * @type {Record<string, string>}
@@ -58,9 +66,9 @@ const ALL = ["doc", "rev", "token"];
 const RULES = {
   doc: "a whole number from 1 to 4294967295",
   count: "a whole number from 1 to 4294967295",
-  at: "a whole number from 0 to 4294967295",
-  from: "a whole number from 0 to 4294967295",
-  to: "a whole number from 0 to 4294967295",
+  at: "a whole number from 0 to 4294967295, or a place that lasts",
+  from: "a whole number from 0 to 4294967295, or a place that lasts",
+  to: "a whole number from 0 to 4294967295, or a place that lasts",
   rev: "a whole number from 0 to 4294967295",
   since: "a whole number from 0 to 4294967295",
   text: "a text of at least one character",
@@ -176,10 +184,37 @@ function isToken(value) {
   return isUuid(value) && !NIL.test(value);
 }
 
-/** @param {any} value */
-function isLasting(value) {
+/**
+ * Whether it is the text of a place that lasts.
+ * @param {any} value
+ * @returns {value is Lasting}
+ */
+export function isLasting(value) {
   const [, counter, replica] = (typeof value === "string" && BESIDE_CHARACTER.exec(value)) || [];
   return counter === undefined ? value === "start" || value === "end" : Number(counter) < 2 ** 48 && isToken(replica);
+}
+
+/** @param {unknown} value */
+function isPlace(value) {
+  return isWhole(value, 0) || isLasting(value);
+}
+
+/**
+ * The places that last which an edit names in place of numbers, by its fields.
+ * @param {any} edit
+ * @returns {[string, Lasting][]}
+ */
+export function lastingOf(edit) {
+  return PLACES.filter((name) => isLasting(edit?.[name])).map((name) => [name, edit[name]]);
+}
+
+/**
+ * Whether an edit, or one of several, is at a place that lasts.
+ * @param {Request} request
+ * @returns {boolean}
+ */
+export function isPlaced(request) {
+  return areEdits(request.edits) ? request.edits.some(isPlaced) : lastingOf(request).length > 0;
 }
 
 /** @param {any} value */
@@ -207,9 +242,9 @@ function some(holds, most = MOST) {
 const HOLDS = {
   doc: from(1),
   count: from(1),
-  at: from(0),
-  from: from(0),
-  to: from(0),
+  at: isPlace,
+  from: isPlace,
+  to: isPlace,
   rev: from(0),
   since: from(0),
   text: isText,

@@ -18,7 +18,7 @@
  * @typedef {import("./marks.js").Span} Span
  * @typedef {import("./changing.js").Step} Step
  * @typedef {{has: number, lacks: number, replica: string}} Peer
- * @typedef {{ok: true, rev: number, text: string, spans: Span[], changes: Step[], anchors: string[], places: (number | null)[],
+ * @typedef {{ok: true, rev: number, text: string, spans: Span[], changes: Step[], anchors: import("./rules.js").Lasting[], places: (number | null)[],
  *   applied: number, settled: number, state: string, peers: Peer[], sessions: number}} Answer
  */
 

@@ -159,10 +159,10 @@ test("a refusal says what it is about", async () => {
   const words = (fields) => session.send(fields).then(assert.fail, ({ message }) => message);
   for (const [fields, about] of [
     [{ doc: 0, at: 0, text: "a" }, `\`doc\` ${whole} 1 to 4294967295; mend`],
-    [{ doc: 1, at: -1, text: "" }, `\`at\` ${whole} 0 to 4294967295, \`text\` has to be a text of at least one character; mend`],
+    [{ doc: 1, at: -1, text: "" }, `\`at\` ${whole} 0 to 4294967295, or a place that lasts, \`text\` has to be a text of at least one character; mend`],
     [{ doc: 1, at: 0 }, "`text` has to be"],
     [{ doc: 1, at: 0, text: "a", token: "00000000-0000-0000-0000-000000000000" }, "`token` has to be a UUID other than the nil one"],
-    [{ doc: 1, at: undefined, text: "a", kind: "em" }, `\`at\` ${whole} 0 to 4294967295, \`kind\` is no field of this request`],
+    [{ doc: 1, at: undefined, text: "a", kind: "em" }, `\`at\` ${whole} 0 to 4294967295, or a place that lasts, \`kind\` is no field of this request`],
   ]) {
     const message = await words({ op: "insert", ...fields });
     assert(message.startsWith(`4 field: ${about}`), message);
@@ -197,8 +197,8 @@ test("a refusal of places that last says what it is about", () => {
   for (const anchor of ["start", "end", `a1@${UNKNOWN}`, `b${2 ** 48 - 1}@${UNKNOWN.toUpperCase()}`]) {
     assert.match(words({ op: "places", anchors: Array(256).fill(anchor) }), /^4 field: a value breaks its rule/);
   }
-  // At an edit it is a number.
-  assert.match(words({ op: "insert", at: [0], text: "x" }), /^4 field: `at` has to be a whole number from 0 to 4294967295; mend/);
+  // At an edit it is one place.
+  assert.match(words({ op: "insert", at: [0], text: "x" }), /^4 field: `at` has to be a whole number from 0 to 4294967295, or a place that lasts; mend/);
 });
 
 /** A document whose answers have these revs, one after the other, and the requests for it. In place of null the transport ends. */

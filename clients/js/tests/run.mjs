@@ -36,6 +36,7 @@ run("signals");
 run("types");
 run("file", noProgram);
 run("places", noProgram);
+run("placed", noProgram);
 run("changes", noProgram);
 run("daemon", noProgram);
 run("watch", noProgram);

@@ -14,18 +14,17 @@
 export function parts<T>(all: T[]): T[][];
 /**
  * The edits that take a stretch away.
- * @param {number} at
+ * @param {import("./action.js").Place} at
  * @param {number} count
  * @returns {Generator<Part, void>}
  */
-export function stretches(at: number, count: number): Generator<Part, void>;
+export function stretches(at: import("./action.js").Place, count: number): Generator<Part, void>;
 /**
  * The lines that make edits at once.
- * @param {Iterable<Piece>} pieces
- * @param {boolean} parted
+ * @param {Iterable<Piece[]>} pieces those of each
  * @returns {Generator<Part, void>}
  */
-export function lines(pieces: Iterable<Piece>, parted: boolean): Generator<Part, void>;
+export function lines(pieces: Iterable<Piece[]>): Generator<Part, void>;
 /**
  * Has a refusal of a line tell which edit of the caller's it is about.
  * @param {Part} part

@@ -1,6 +1,8 @@
 /**
  * @typedef {import("./aborting.js").Abortable} Abortable
- * @typedef {import("./action.js").Edit} Edit
+ * @typedef {import("./action.js").Lasting} Lasting
+ * @typedef {import("./action.js").Place} Place
+ * @typedef {import("./action.js").PlacedEdit} PlacedEdit
  * @typedef {import("./again.js").Request} Request
  * @typedef {import("./calls.js").Part} Part
  * @typedef {import("./changing.js").Changes} Changes
@@ -32,12 +34,17 @@
  * edits that are counted as JavaScript's strings are. An edit may name the `rev` that it was made for, which this session
  * has to have read.
  *
+ * In place of a number an edit may be given the name of a place that lasts, as `anchor` tells it: then it is made where that
+ * is by then, whatever others did meanwhile, and needs no `rev`.
+ *
  * Each edit answers the document's new `rev` once it is settled on the disk: it then outlives a power cut.
  *
  * An edit is of at most 256 characters. An `insert` of more is made at once too, as far as one line takes it, which are 64
  * KiB. A longer one goes as several lines, each of which is answered before the next one is sent, and a `delete` of more
  * than 256 characters as several edits. If anybody edits the document in between, the next one is `Stale`, and those before
- * it are made. The tokens of all but the first follow from the one that is given.
+ * it are made. The tokens of all but the first follow from the one that is given. At a place that lasts some of these are made
+ * by numbers, in just the text in which the place was asked for: where it takes several lines, and where a long text comes just
+ * after a character. If others edit meanwhile it is asked for again, up to eight times, and then `Stale`.
  *
  * A call whose `signal` is aborted rejects with the signal's reason. What was sent by then may be made, and nothing more of
  * the call is sent; an edit with a token of the caller's may be sent again.
@@ -52,42 +59,42 @@ export class Document {
     number: number;
     /**
      * Puts characters before the one at a place, or at the end.
-     * @param {number} at
+     * @param {Place} at
      * @param {string} text
      * @param {number | EditOptions} [rev]
      * @param {string | EditOptions} [token]
      * @param {EditOptions} [options]
      */
-    insert(at: number, text: string, rev?: number | EditOptions | undefined, token?: string | EditOptions | undefined, options?: EditOptions | undefined): Promise<number>;
+    insert(at: Place, text: string, rev?: number | EditOptions | undefined, token?: string | EditOptions | undefined, options?: EditOptions | undefined): Promise<number>;
     /**
      * Takes characters away from a place on.
-     * @param {number} at
+     * @param {Place} at
      * @param {number} count
      * @param {number | EditOptions} [rev]
      * @param {string | EditOptions} [token]
      * @param {EditOptions} [options]
      */
-    delete(at: number, count: number, rev?: number | EditOptions | undefined, token?: string | EditOptions | undefined, options?: EditOptions | undefined): Promise<number>;
+    delete(at: Place, count: number, rev?: number | EditOptions | undefined, token?: string | EditOptions | undefined, options?: EditOptions | undefined): Promise<number>;
     /**
      * Marks the characters from a place up to another, that one not included.
-     * @param {number} from
-     * @param {number} to
+     * @param {Place} from
+     * @param {Place} to
      * @param {Mark} mark
      * @param {number | EditOptions} [rev]
      * @param {string | EditOptions} [token]
      * @param {EditOptions} [options]
      */
-    mark(from: number, to: number, mark: Mark, rev?: number | EditOptions | undefined, token?: string | EditOptions | undefined, options?: EditOptions | undefined): Promise<number>;
+    mark(from: Place, to: Place, mark: Mark, rev?: number | EditOptions | undefined, token?: string | EditOptions | undefined, options?: EditOptions | undefined): Promise<number>;
     /**
      * Takes a mark away from the characters from a place up to another, that one not included.
-     * @param {number} from
-     * @param {number} to
+     * @param {Place} from
+     * @param {Place} to
      * @param {Mark} mark
      * @param {number | EditOptions} [rev]
      * @param {string | EditOptions} [token]
      * @param {EditOptions} [options]
      */
-    unmark(from: number, to: number, mark: Mark, rev?: number | EditOptions | undefined, token?: string | EditOptions | undefined, options?: EditOptions | undefined): Promise<number>;
+    unmark(from: Place, to: Place, mark: Mark, rev?: number | EditOptions | undefined, token?: string | EditOptions | undefined, options?: EditOptions | undefined): Promise<number>;
     /**
      * Makes edits at once: all of them or none, and nothing comes between them. Each is at the places that those before it
      * leave: `[{ op: "delete", at: 4, count: 3 }, { op: "insert", at: 4, text: "TWO" }, { op: "mark", from: 4, to: 7, ...STRONG }]`.
@@ -95,12 +102,12 @@ export class Document {
      * One line takes 1,024 edits of at most 256 characters (a longer one is several of them), and 65,536 bytes. More is a
      * `RangeError`, and nothing is sent; with `parted` it goes as several lines, each of them all or nothing, as a long
      * `insert` does.
-     * @param {readonly Edit[]} edits
+     * @param {readonly PlacedEdit[]} edits
      * @param {number | ActionOptions} [rev]
      * @param {string | ActionOptions} [token]
      * @param {ActionOptions} [options]
      */
-    action(edits: readonly Edit[], rev?: number | ActionOptions | undefined, token?: string | ActionOptions | undefined, options?: ActionOptions | undefined): Promise<number>;
+    action(edits: readonly PlacedEdit[], rev?: number | ActionOptions | undefined, token?: string | ActionOptions | undefined, options?: ActionOptions | undefined): Promise<number>;
     /**
      * Sends the fields of an edit.
      * @param {Record<string, unknown>} fields
@@ -155,8 +162,9 @@ export class Document {
      * @param {Side | AnchorOptions} [side]
      * @param {number | AnchorOptions} [rev]
      * @param {AnchorOptions} [options]
+     * @returns {Promise<Lasting>}
      */
-    anchor(at: number, side?: Side | AnchorOptions | undefined, rev?: number | AnchorOptions | undefined, options?: AnchorOptions | undefined): Promise<string>;
+    anchor(at: number, side?: Side | AnchorOptions | undefined, rev?: number | AnchorOptions | undefined, options?: AnchorOptions | undefined): Promise<Lasting>;
     /**
      * Such names for any number of places. More than 256 go as several requests, which may be answered at different moments:
      * unless all of them are answered at one `rev`, they are sent anew, and are `Stale` after eight times.
@@ -164,9 +172,9 @@ export class Document {
      * @param {Side | AnchorOptions} [side]
      * @param {number | AnchorOptions} [rev]
      * @param {AnchorOptions} [options]
-     * @returns {Promise<string[]>}
+     * @returns {Promise<Lasting[]>}
      */
-    anchors(at: number[], side?: Side | AnchorOptions | undefined, rev?: number | AnchorOptions | undefined, options?: AnchorOptions | undefined): Promise<string[]>;
+    anchors(at: number[], side?: Side | AnchorOptions | undefined, rev?: number | AnchorOptions | undefined, options?: AnchorOptions | undefined): Promise<Lasting[]>;
     /**
      * Where a place that lasts is now, or null if it is beside a character that this file doesn't have, or doesn't have yet.
      * Beside one that was removed it stays where that was. With the `rev` of a text that was read it is a place of just this
@@ -192,7 +200,9 @@ export class Document {
     #private;
 }
 export type Abortable = import("./aborting.js").Abortable;
-export type Edit = import("./action.js").Edit;
+export type Lasting = import("./action.js").Lasting;
+export type Place = import("./action.js").Place;
+export type PlacedEdit = import("./action.js").PlacedEdit;
 export type Request = import("./again.js").Request;
 export type Part = import("./calls.js").Part;
 export type Changes = import("./changing.js").Changes;

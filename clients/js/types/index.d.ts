@@ -15,6 +15,18 @@ export type Edit = import("./action.js").Edit;
 /**
  * The types of what calls take and give.
  */
+export type Lasting = import("./action.js").Lasting;
+/**
+ * The types of what calls take and give.
+ */
+export type Place = import("./action.js").Place;
+/**
+ * The types of what calls take and give.
+ */
+export type PlacedEdit = import("./action.js").PlacedEdit;
+/**
+ * The types of what calls take and give.
+ */
 export type Changes = import("./changing.js").Changes;
 /**
  * The types of what calls take and give.

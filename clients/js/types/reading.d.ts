@@ -65,7 +65,7 @@ export class Reading {
      */
     anchor(index: number, side?: import("./document.js").Side | (import("./aborting.js").Abortable & {
         side?: import("./document.js").Side | undefined;
-    }) | undefined, options?: import("./aborting.js").Abortable | undefined): Promise<string>;
+    }) | undefined, options?: import("./aborting.js").Abortable | undefined): Promise<import("./rules.js").Lasting>;
     /**
      * The index of a place that lasts in this text, or null if it is beside a character that the file doesn't have; `Stale` if
      * the document has moved on.

@@ -16,12 +16,34 @@ export function isLong({ text, count, edits }: Request): boolean;
  */
 export function isWhole(value: unknown, least: number): boolean;
 /**
+ * Whether it is the text of a place that lasts.
+ * @param {any} value
+ * @returns {value is Lasting}
+ */
+export function isLasting(value: any): value is Lasting;
+/**
+ * The places that last which an edit names in place of numbers, by its fields.
+ * @param {any} edit
+ * @returns {[string, Lasting][]}
+ */
+export function lastingOf(edit: any): [string, Lasting][];
+/**
+ * Whether an edit, or one of several, is at a place that lasts.
+ * @param {Request} request
+ * @returns {boolean}
+ */
+export function isPlaced(request: Request): boolean;
+/**
  * @param {unknown} value
  * @returns {value is Request[]}
  */
 export function areEdits(value: unknown): value is Request[];
 /** The rules of a request's fields, as docs/FORMATS.md has them, and which of them a request breaks. */
 /** @typedef {Record<string, unknown>} Request */
+/**
+ * The text of a place that lasts: the start or the end of the text, or just after or just before a character.
+ * @typedef {"start" | "end" | `a${number}@${string}` | `b${number}@${string}`} Lasting
+ */
 /** How many characters one edit may put in, or take away. */
 export const LONGEST: 256;
 /** How many places one request may ask for. */
@@ -29,3 +51,7 @@ export const MOST: 256;
 /** How many edits one request may make. */
 export const MANY: 1024;
 export type Request = Record<string, unknown>;
+/**
+ * The text of a place that lasts: the start or the end of the text, or just after or just before a character.
+ */
+export type Lasting = "start" | "end" | `a${number}@${string}` | `b${number}@${string}`;

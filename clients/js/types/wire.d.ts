@@ -45,7 +45,7 @@ export type Answer = {
     text: string;
     spans: Span[];
     changes: Step[];
-    anchors: string[];
+    anchors: import("./rules.js").Lasting[];
     places: (number | null)[];
     applied: number;
     settled: number;

@@ -114,7 +114,7 @@ class Refusals(WithFile):
         with self.open() as opened:
             for fields, about in (
                 ({"doc": 0, "at": 0, "text": "a"}, f"`doc` {whole} 1 to 4294967295; mend"),
-                ({"doc": 1, "at": -1, "text": ""}, f"`at` {whole} 0 to 4294967295, `text` has to be a text of at least one character; mend"),
+                ({"doc": 1, "at": -1, "text": ""}, f"`at` {whole} 0 to 4294967295, or a place that lasts, `text` has to be a text of at least one character; mend"),
                 ({"doc": 1, "at": 0}, "`text` has to be"),
                 ({"doc": 1, "at": 0, "text": "a", "rev": "1"}, f"`rev` {whole} 0"),
                 ({"doc": 1, "at": 0, "text": "a", "token": str(UUID(int=0))}, "`token` has to be a UUID other than the nil one"),

@@ -26,6 +26,10 @@ def waits() -> List[peritext.Span]:
         for delta in deltas:
             shown = delta.on(shown)
         rev: int = session.document(1).insert("0", "x")  # type: ignore[arg-type]
+        caret: peritext.Lasting = session.document(1).anchor(0)
+        kept: str = caret
+        session.document(1).insert(peritext.Lasting(kept), "x")
+        session.document(1).mark(caret, "end", peritext.EM)
         return session.document(1).spans()
 
 
@@ -34,6 +38,8 @@ async def awaits() -> int:
         notes = session.document(1)
         async with notes.action(await notes.rev()) as action:
             action.insert(0, "x")
+            action.delete(await notes.anchor(1), 1)
+            action.insert("start", "x")
         shown: List[peritext.Span] = []
         async for delta in notes.follow():
             shown = delta.on(shown)

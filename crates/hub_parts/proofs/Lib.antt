@@ -16,3 +16,4 @@ pub mod PuttingLemmas
 pub mod WaitingLengths
 pub mod TypedWaits
 pub mod WiderMoments
+pub mod AskedLemmas

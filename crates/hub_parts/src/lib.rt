@@ -5,6 +5,7 @@
 //! lock.
 #![tactic(auto)]
 
+mod asking;
 mod edits_and_merges;
 mod fitting;
 mod flusher;

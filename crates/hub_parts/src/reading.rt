@@ -136,7 +136,8 @@ impl Locked {
     /// as steps over the text that a reader has from then; `None` if it has fewer, or that was too
     /// long ago to be told. An error is out of memory (1). Costs what `Replica::changes` does.
     pub fn changes(&self, doc: u32, since: usize) -> Result<Option<Vec<ChangeStep>>, AllocError>
-        ensures { IfOk result (λ found. TellsChanges self.now.replica.list doc since found) }
+        ensures { IfOk result (λ found.
+            TellsChanges self.now.replica.list self.now.replica.opened doc since found) }
     {
         self.replica.changes(doc, since)
     }

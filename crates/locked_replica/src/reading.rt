@@ -4,6 +4,7 @@ ghost use Rattle.op_model.specs.Causality.{clock_of};
 ghost use Rattle.op_model.specs.Machine.{known_ticket};
 ghost use Rattle.op_model.specs.Spans.{spans as spans_of};
 ghost use Rattle.op_model.specs.Text.{text as text_of, rev as rev_of};
+ghost use Rattle.placed_edits.specs.Placed.{asked_at};
 ghost use Rattle.replica_core.specs.Held.{IsSound};
 ghost use Rattle.replica_core.specs.Changed.{TellsChanges};
 ghost use Rattle.replica_core.specs.Places.{anchors_of, are_within, places_of};
@@ -13,9 +14,10 @@ use crate::hub::Hub;
 use disk_trait::Disk;
 use op_ids::{Clock, ReplicaId};
 use op_model::{Action, ChangeStep, Lasting, Neighbour, Span, Text};
+use placed_edits::PlacedAction;
 use replica_core::Ticket;
 use run_list::RunSlice;
-use std::alloc::AllocError;
+use std::alloc::{AllocError, Global};
 
 impl<D: Disk> Hub<D> {
     /// The name of the replica.
@@ -113,7 +115,8 @@ impl<D: Disk> Hub<D> {
     /// as steps over the text that a reader has from then; `None` if it has fewer, or that was too
     /// long ago to be told. An error is out of memory (1). Costs what `Replica::changes` does.
     pub fn changes(&self, doc: u32, since: usize) -> Result<Option<Vec<ChangeStep>>, AllocError>
-        ensures { IfOk result (λ found. TellsChanges self.now.replica.list doc since found) }
+        ensures { IfOk result (λ found.
+            TellsChanges self.now.replica.list self.now.replica.opened doc since found) }
     {
         self.locked.changes(doc, since)
     }
@@ -152,5 +155,15 @@ impl<D: Disk> Hub<D> {
     {
         let Hub { flusher, .. } = self;
         flusher.into_disk()
+    }
+
+    /// The action by numbers that an edit asks for: its places that last are where their characters
+    /// are, unsettled operations included, moved by the changes of the edit before them. An error
+    /// is out of memory (1). Costs what `Locked::asked` does.
+    pub fn asked(&self, alloc: Global, placed: &PlacedAction) -> Result<Action, AllocError>
+        ensures { IfOk result (λ action. action
+            ≡ asked_at self.now.replica.list placed.now) }
+    {
+        self.locked.asked(alloc, placed)
     }
 }

@@ -1,5 +1,5 @@
 -- Going back over a list, what came for a document is noted.
-use Rattle.std.proofs.Common.{◌≡◌, ℕ, suc, ◌+◌, ◌-◌, ◌≤◌, ◌<◌, Bool, false, not, cond, ◌&&◌, List, [], ◌∷◌, ◌++◌, length, map, take, drop, get_or}
+use Rattle.std.proofs.Common.{◌≡◌, ℕ, zero, suc, ◌+◌, ◌-◌, ◌≤◌, ◌<◌, Bool, false, not, cond, ◌&&◌, List, [], ◌∷◌, ◌++◌, length, map, take, drop, get_or}
 use Rattle.std.proofs.Common.{Some, refl, sym, ◌∙◌, ap, subst, arith, add-one, add-zero, drop-cons}
 use Rattle.std.specs.Prelude.{slice_get, ◌==◌}
 use Rattle.std.proofs.lemmas.Bool.{eq-eqb}
@@ -68,6 +68,25 @@ pub record IsBack (s : Since) (ops : List Op) (doc count left j : ℕ) : Type 0 
   pub few : left ≤ count
   pub counted : rev (take j ops) doc + count ≡ rev ops doc + left
   pub since : IsSince s (take j ops) (drop j ops) doc
+
+-- a longer beginning has at least as many of the document
+rev_front : (ops : List Op) (doc j k : ℕ) → j ≤ k → rev (take j ops) doc ≤ rev (take k ops) doc
+rev_front ops doc zero k less = omega arith
+rev_front [] doc (suc j) k less = omega arith
+rev_front (op ∷ ops) doc (suc j) zero less = let never : ⊥ = omega arith in absurd never
+rev_front (op ∷ ops) doc (suc j) (suc k) less =
+    let rest = rev_front ops doc j k (omega arith) in
+    let first = sum_by-cons (λ (o : Op). cond (o.doc == doc) 1 0) op (take j ops) in
+    let second = sum_by-cons (λ (o : Op). cond (o.doc == doc) 1 0) op (take k ops) in
+    omega arith
+
+-- where something is left of what came later than this, that wasn't gone over yet
+pub back_known : (s : Since) (ops : List Op) (doc count left j from : ℕ) → 0 < left → IsBack s ops doc count left j → j ≤ from
+    → rev (take from ops) doc + count ≤ rev ops doc → ⊥
+back_known s ops doc count left j from some back past late =
+    let counted = back.counted in
+    let front = rev_front ops doc j from past in
+    omega arith
 
 -- nothing was gone over
 pub back_none : (s : Since) (ops : List Op) (doc count : ℕ) → IsSince s ops [] doc → IsBack s ops doc count count (length ops)

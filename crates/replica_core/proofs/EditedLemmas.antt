@@ -74,6 +74,7 @@ AreFields-with_edit h session e counts_before counts docs_before docs before aft
       index = indexed fields.index;
       tokens = are_tokens;
       repeats = put_others repeats h.list (made_by_action h.list h.replica e) fields.repeats (removes_nothing_again h.list h.replica e closed can.due);
+      noted_from = fields.noted_from;
     }
 
 -- what a replica holds after an action's operations and its step

@@ -103,15 +103,23 @@ put_noted old new ops op index was at from noted again =
     (noted (length ops) ∙ (ap (λ t. cond t true (has_noted old (length ops))) (at_number index (length ops) ∙ eq-eqb index (length ops) (sym at)) ∙ again))
     (λ i more. noted i ∙ ap (λ t. cond t true (has_noted old i)) (at_number index i ∙ other_number index i (λ e. omega arith)))
 
--- where it couldn't be noted, nothing up to it is known
-pub put_unknown : (old new : Repeats) (ops : List Op) (op : Op) (index : ℕ) → AreRepeats old ops → length ops ≡ index → new.from ≡ index + 1
-    → ((i : ℕ) → has_noted new i ≡ has_noted old i) → AreRepeats new (ops ++ op ∷ [])
-put_unknown old new ops op index was at from same =
+-- a note that is taken back
+pub put_back : (old new : Repeats) (ops : List Op) (op : Op) (index : ℕ) → AreRepeats old (ops ++ op ∷ []) → length ops ≡ index → new.from ≡ old.from
+    → old.from ≤ index → ((i : ℕ) → has_noted new i ≡ cond (is_at (nat_cmp index) i) false (has_noted old i)) → AreRepeats new ops
+put_back old new ops op index was at from early left =
     let long = length-append ops (op ∷ []) in
     record {
       within = omega arith;
-      noted = λ i known. same i ∙ (was.noted i (let within = was.within in omega arith)
-          ∙ (repeats_past ops i (omega arith) ∙ sym (repeats_past (ops ++ op ∷ []) i (omega arith))));
+      noted = λ i known. elim (placed i (length ops)) [
+        | inl less ↦ left i ∙ (ap (λ t. cond t false (has_noted old i)) (at_number index i ∙ other_number index i (λ e. omega arith))
+            ∙ (was.noted i (omega arith) ∙ repeats_before ops (op ∷ []) i less))
+        | inr rest ↦ elim rest [
+          | inl same ↦ left i ∙ (ap (λ t. cond t false (has_noted old i)) (at_number index i ∙ eq-eqb index i (omega arith))
+              ∙ sym (repeats_past ops i (omega arith)))
+          | inr more ↦ left i ∙ (ap (λ t. cond t false (has_noted old i)) (at_number index i ∙ other_number index i (λ e. omega arith))
+              ∙ (was.noted i (omega arith) ∙ (repeats_past (ops ++ op ∷ []) i (omega arith) ∙ sym (repeats_past ops i (omega arith)))))
+        ]
+      ];
     }
 
 -- of a list of which nothing is known

@@ -1,5 +1,5 @@
 -- What a replica keeps through its steps.
-use Rattle.std.proofs.Common.{◌≡◌, ℕ, ◌+◌, ◌≤◌, ◌<◌, Bool, true, false, not, ◌&&◌, nat_le, List, [], ◌∷◌, ◌++◌, length, take, max, cond}
+use Rattle.std.proofs.Common.{◌≡◌, ℕ, ◌+◌, ◌≤◌, Bool, true, false, not, ◌&&◌, nat_le, List, [], ◌∷◌, ◌++◌, length, take, max, cond}
 use Rattle.std.proofs.Common.{sum_by, refl, sym, ◌∙◌, ap, Option, Some, None, arith, length-append}
 use Rattle.std.specs.Prelude.{◌==◌, ◌≢◌, if◌then◌else◌}
 use Rattle.std.specs.List.{list_all}
@@ -15,36 +15,28 @@ use Rattle.op_model.specs.declared.edit.Edit.{Edit}
 use Rattle.op_model.specs.Causality.{clock_of, documents, made_by, first_failed, is_in_range, is_known, is_within_limits}
 use Rattle.op_model.specs.Made.{is_at_rev, is_inside, is_small, made, numbered, bodies_of, greatest_counter, edit_refusal, size_of}
 use Rattle.op_model.specs.Records.{stream_length}
-use Rattle.op_model.specs.Machine.{new_edit_alone, merge_alone, applied, ticket}
-use Rattle.op_model.specs.Replay.{Kept, edited, merged, Joins, Replays}
+use Rattle.op_model.specs.Machine.{merge_alone, applied}
+use Rattle.op_model.specs.Replay.{Kept, merged, Joins, Replays}
 use Rattle.op_model.specs.Spans.{with_number}
 use Rattle.op_model.specs.Text.{rev, visible}
 use Rattle.model_laws.proofs.Growth.{closed_push}
-use Rattle.model_laws.proofs.Makes.{closed_made}
 use Rattle.model_laws.proofs.Ready.{clock-push}
 use Rattle.model_laws.specs.Asking.{IsAskedRight}
 use Rattle.doc_core.specs.declared.doc.Doc.{Doc}
-use Rattle.char_sequence.specs.Content.{FitAfter}
 use Rattle.edit_tokens.specs.declared.place.Place.{Place}
-use Rattle.edit_tokens.specs.Places.{AreTokens}
 use Rattle.edit_tokens.proofs.PlaceLemmas.{tokens_foreign}
 use Rattle.model_laws.proofs.Closed.{follows_fits}
-use Rattle.doc_core.proofs.FittingLemmas.{made_fit}
 use Rattle.replica_core.specs.declared.index.Index.{Index}
 use Rattle.replica_core.specs.declared.repeats.Repeats.{Repeats}
 use Rattle.replica_core.specs.Repeats.{AreRepeats}
-use Rattle.model_laws.proofs.Again.{made_removes_nothing_again}
-use Rattle.replica_core.proofs.RepeatLemmas.{put_others}
-use Rattle.replica_core.specs.Docs.{numbers, AllStand, AreDocs}
 use Rattle.replica_core.specs.declared.log.Log.{Log}
-use Rattle.replica_core.specs.Indexes.{IsIndexOf}
 use Rattle.replica_core.specs.Log.{IsAppended}
 use Rattle.replica_core.specs.Fields.{AreFields, held_of}
-use Rattle.op_model.specs.Held.{ReplicaHeld, with_edit, with_merge}
-use Rattle.replica_core.specs.Held.{CanEdit, IsSound}
+use Rattle.op_model.specs.Held.{ReplicaHeld, with_merge}
+use Rattle.replica_core.specs.Held.{IsSound}
 use Rattle.replica_core.specs.Merging.{CanMerge}
 use Rattle.model_laws.proofs.Ready.{documents-push}
-use Rattle.replica_core.proofs.LimitLemmas.{documents-made, length-made}
+use Rattle.replica_core.proofs.LimitLemmas.{length-made}
 use Rattle.model_laws.proofs.Passing.{passed_follows}
 
 -- the causes of an edit, where none holds
@@ -158,8 +150,9 @@ pub AreFields-merge : (id opened settled acked told peer index : ℕ) (steps : L
     → AreFields (held_of id old.list opened settled acked told steps) counts_before old.docs.items old.index places repeats_before
     → CanMerge (held_of id old.list opened settled acked told steps) op → counts ≡ advanced counts_before op.id.replica
     → IsAppended old new added op.doc → added ≡ op ∷ [] → index ≡ length old.list → AreRepeats repeats (old.list ++ op ∷ [])
+    → repeats.from ≡ repeats_before.from
     → AreFields (held_of id new.list opened settled acked told (merged peer index ∷ steps)) counts new.docs.items new.index places repeats
-AreFields-merge id opened settled acked told peer index steps old new added op counts_before counts places repeats_before repeats fields can is_clock is are at noted =
+AreFields-merge id opened settled acked told peer index steps old new added op counts_before counts places repeats_before repeats fields can is_clock is are at noted from =
     let h : ReplicaHeld = held_of id old.list opened settled acked told steps in
     let held = held_of-merge id opened settled acked told peer index steps old new added op is are at in
     rw held (record {
@@ -172,6 +165,7 @@ AreFields-merge id opened settled acked told peer index steps old new added op c
       index = rw (← are, ← is.list) (is.index fields.index);
       tokens = tokens_foreign places id old.list op can.joins.foreign fields.tokens;
       repeats = noted;
+      noted_from = from ∙ fields.noted_from;
     })
 
 differs : (a b : ℕ) → (a == b) ≡ false → a ≢ b
@@ -213,4 +207,5 @@ AreFields-told h n now counts docs known places repeats fields within is_it = re
   index = fields.index;
   tokens = fields.tokens;
   repeats = fields.repeats;
+  noted_from = fields.noted_from;
 }

@@ -1,5 +1,5 @@
 -- What changed in a document of a replica.
-use Rattle.std.specs.Prelude.{◌≡◌, ◌≤◌, ℕ, List, ◌++◌, Option, IfSome, IsSome}
+use Rattle.std.specs.Prelude.{◌≡◌, ◌≤◌, ℕ, List, ◌++◌, take, Option, IfSome, IsSome}
 use Rattle.std.specs.Global.{Vec}
 use Rattle.op_model.specs.declared.op.Op.{Op}
 use Rattle.op_model.specs.declared.change_step.ChangeStep.{ChangeStep}
@@ -11,8 +11,8 @@ pub record AreChangesSince (list : List Op) (doc since : ℕ) (steps : List Chan
   pub within : since ≤ rev list doc
   pub are : (before more : List Op) → list ≡ before ++ more → rev before doc ≡ since → steps ≡ changes before list doc
 
--- What is told: just what changed. Since none and since now is always told.
-pub record TellsChanges (list : List Op) (doc since : ℕ) (found : Option (Vec ChangeStep)) : Type 0 where
+-- What is told: just what changed. Since none is always told, and so is since any number that the document has had from the opening on.
+pub record TellsChanges (list : List Op) (opened doc since : ℕ) (found : Option (Vec ChangeStep)) : Type 0 where
   pub changes : IfSome found (λ steps. AreChangesSince list doc since steps.items)
   pub first : since ≡ 0 → IsSome found
-  pub now : since ≡ rev list doc → IsSome found
+  pub later : rev (take opened list) doc ≤ since → since ≤ rev list doc → IsSome found

@@ -29,7 +29,7 @@ held_of replica list opened settled acked told steps = record {
 }
 
 -- what a replica holds is sound, its clock, its documents and its index are those of the list, and its tokens those of its own edits, and what was
--- removed again is noted
+-- removed again is noted, from the opening on
 pub record AreFields (h : ReplicaHeld) (counts : List (ℕ × ℕ)) (kept_docs : List Doc) (known : Index) (places : List (ℕ × Place)) (noted : Repeats) : Type 0 where
   pub sound : IsSound h
   pub clock : counts ≡ clock_of h.list
@@ -37,3 +37,4 @@ pub record AreFields (h : ReplicaHeld) (counts : List (ℕ × ℕ)) (kept_docs :
   pub index : IsIndexOf known h.list
   pub tokens : AreTokens places h.replica h.list
   pub repeats : AreRepeats noted h.list
+  pub noted_from : noted.from ≡ h.opened

@@ -1,6 +1,7 @@
 //! What changed in a document of a replica.
-ghost use Rattle.std.specs.Prelude.{◌≡◌, map, IfOk, IfSome, IsSome};
+ghost use Rattle.std.specs.Prelude.{◌≡◌, ◌≤◌, ◌+◌, map, take, IfOk, IfSome, IsSome};
 ghost use Rattle.op_model.specs.declared.change_step.ChangeStep.TheVariants.{Put};
+ghost use Rattle.op_model.specs.Text.{rev};
 ghost use Rattle.replica_core.specs.Came.{IsCame};
 ghost use Rattle.replica_core.specs.Changed.{TellsChanges};
 ghost use Rattle.replica_core.specs.Repeats.{AreRepeats};
@@ -15,16 +16,16 @@ use std::alloc::{AllocError, Global};
 
 impl Replica {
     /// What changed in a document, unsettled operations included, since it had `since` operations,
-    /// as steps over the text that a reader has from then. `None` where it has fewer, or where that
-    /// is too long ago to be told: before the replica was opened, or before a merge for whose note
-    /// there was no memory. What changed since it had none, and since now, is always told. An error
+    /// as steps over the text that a reader has from then. `None` if it has fewer, or if that was
+    /// before the replica was opened; but since it had none is always told. An error
     /// is out of memory (1). An answer lists at most 1,048,576 comment ids, one counted in each
     /// step that lists it: beyond it is 1. A search by halves for the document. Since it had none,
     /// what `spans` costs. Else a look at the head of each operation of the list from the end back
     /// to the first one of the document that came since, and for each one of the document what
     /// `RunSlice::get` and `Since::take_before` cost; and then what `Doc::changes` costs.
     pub fn changes(&self, doc: u32, since: usize) -> Result<Option<Vec<ChangeStep>>, AllocError>
-        ensures { IfOk result (λ found. TellsChanges self.now.list doc since found) }
+        ensures { IfOk result
+            (λ found. TellsChanges self.now.list self.now.opened doc since found) }
     {
         let alloc = self.log.list.allocator();
         let empty = Doc::new(alloc, doc);
@@ -45,8 +46,8 @@ impl Replica {
     }
 }
 
-/// What came with the last `count` operations of a document, or `None` where one of these came when
-/// nothing was noted. An error is out of memory (1). Costs what `Replica::changes` says.
+/// What came with the last `count` operations of a document, or `None` if one of these came before
+/// anything was noted. An error is out of memory (1). Costs what `Replica::changes` says.
 fn came(
     alloc: Global,
     doc: u32,
@@ -56,7 +57,8 @@ fn came(
 ) -> Result<Option<Since>, AllocError>
     requires { AreRepeats repeats.now list.now }
     ensures came { IfOk result (λ found. IfSome found (λ came. IsCame came list.now doc count)) }
-    ensures none { IfOk result (λ found. count ≡ 0 → IsSome found) }
+    ensures known { IfOk result (λ found.
+        rev (take repeats.now.from list.now) doc + count ≤ rev list.now doc → IsSome found) }
 {
     let mut came = Since::new(alloc, doc);
     let mut left = count;

@@ -95,8 +95,7 @@ impl Replica {
     /// Puts an operation behind the list that nothing refuses, as `decide_merge` tells. An error is
     /// out of memory (1), and changes nothing. A few steps for clocks, a search by halves for the
     /// document, and what that takes for it. For a remove `Doc::is_removed` too: if the character
-    /// was removed before, that is noted; where there is no memory for the note, the remove still
-    /// stands, and `changes` tells nothing from before it.
+    /// was removed before, that is noted.
     pub fn put_merge(&mut self, peer: u64, op: Op) -> Result<(), Refusal>
         requires { CanMerge self.old op }
         ensures merged { OnOk result (self.new ≡ with_merge self.old peer op) }
@@ -113,13 +112,16 @@ impl Replica {
         let empty = Doc::new(alloc, doc);
         let is_repeat = removes_again(docs::at(&self.log.docs, place, &empty), &op);
         let made = Made::one(alloc, op)?;
+        self.repeats.note(index, is_repeat)?;
         match self.log.append(&made, replica, doc, place) {
             Ok(()) => {}
-            Err(SequenceError::Memory) => return Err(Refusal::Memory),
+            Err(SequenceError::Memory) => {
+                self.repeats.forget(index);
+                return Err(Refusal::Memory);
+            }
             Err(SequenceError::UnknownId) => unreachable!(),
         }
         self.clock = clock;
-        self.repeats.put(index, is_repeat);
         self.steps.push(Step::Merge { peer, index });
         Ok(())
     }

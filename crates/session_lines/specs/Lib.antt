@@ -2,6 +2,7 @@ pub mod Fields
 pub mod Anchors
 pub mod Several
 pub mod Putting
+pub mod Spots
 pub mod Edits
 pub mod Requests
 pub mod Saying

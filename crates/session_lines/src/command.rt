@@ -1,13 +1,14 @@
 //! What a line asks for.
 use crate::lasting_list::LastingList;
 use crate::numbers::Numbers;
-use op_model::{Action, Neighbour};
+use op_model::Neighbour;
+use placed_edits::PlacedAction;
 
 /// What a line of a session asks for.
 #[derive(Debug, Drop)]
 pub enum Command {
-    /// A change of a document, or several at once.
-    Edit(Action),
+    /// A change of a document, or several at once, by numbers or at places that last.
+    Edit(PlacedAction),
     /// The text of a document, by its number from 1 on.
     Text {
         doc: u32,

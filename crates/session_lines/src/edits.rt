@@ -11,6 +11,7 @@ use crate::one_change::change;
 use crate::refusal::Refusal;
 use crate::verb::Verb;
 use op_model::{Action, Change, Edit};
+use placed_edits::{PlacedAction, PlacedChange, Spots};
 use serde_json::Value;
 use std::alloc::{AllocError, Global};
 
@@ -30,7 +31,7 @@ pub(crate) fn edits(alloc: Global, value: &Value) -> Result<Command, Refusal>
     let Some((first, others)) = items.split_first() else {
         return Err(Refusal::Field);
     };
-    let change = listed(alloc, first)?;
+    let PlacedChange { change, spots } = listed(alloc, first)?;
     let others = each_listed(alloc, others)?;
     let edit = Edit {
         doc,
@@ -38,12 +39,12 @@ pub(crate) fn edits(alloc: Global, value: &Value) -> Result<Command, Refusal>
         token,
         change,
     };
-    let action = Action::new(edit, others).ok_or(Refusal::Field)?;
-    Ok(Command::Edit(action))
+    let action = Action::new(edit, others.changes).ok_or(Refusal::Field)?;
+    Ok(Command::Edit(PlacedAction::new(action, spots, others.spots)))
 }
 
 /// One of several changes. An error is out of memory, no change, or a field that it doesn't have.
-fn listed(alloc: Global, value: &Value) -> Result<Change, Refusal>
+fn listed(alloc: Global, value: &Value) -> Result<PlacedChange, Refusal>
     ensures { Reads result (listed_change (view value.now)) }
 {
     let verb = value
@@ -54,17 +55,29 @@ fn listed(alloc: Global, value: &Value) -> Result<Change, Refusal>
     change(alloc, value, verb, &["op"])
 }
 
+/// Several changes, and the places of each.
+#[derive(Debug, Drop)]
+struct Several {
+    changes: Vec<Change>,
+    spots: Vec<Spots>,
+}
+
 /// All of these values as changes, in order.
-fn each_listed(alloc: Global, items: &[Value]) -> Result<Vec<Change>, Refusal>
-    ensures ok { IfOk result (λ changes. listed_changes (items_view items.now)
-        ≡ Ok changes.items) }
+fn each_listed(alloc: Global, items: &[Value]) -> Result<Several, Refusal>
+    ensures ok { IfOk result (λ several. listed_changes (items_view items.now)
+        ≡ Ok (record { changes = several.changes.items; spots = several.spots.items })) }
     ensures err { IfErr result (λ refusal. refusal ≢ Memory
         → listed_changes (items_view items.now) ≡ Err refusal) }
 {
     let mut changes = Vec::with_capacity(alloc, items.len())?;
+    let mut places = Vec::with_capacity(alloc, items.len())?;
     for item in items {
-        let change = listed(alloc, item)?;
+        let PlacedChange { change, spots } = listed(alloc, item)?;
         changes.push(change).map_err(AllocError::from)?;
+        places.push(spots).map_err(AllocError::from)?;
     }
-    Ok(changes)
+    Ok(Several {
+        changes,
+        spots: places,
+    })
 }

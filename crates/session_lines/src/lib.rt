@@ -27,6 +27,7 @@ mod several;
 mod short_line;
 mod span_list;
 mod spans;
+mod spot;
 mod verb;
 mod watch;
 

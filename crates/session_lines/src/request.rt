@@ -13,6 +13,7 @@ use crate::refusal::Refusal;
 use crate::several::{self, numbers, side};
 use crate::verb::Verb;
 use op_model::{Action, Edit};
+use placed_edits::PlacedAction;
 use serde_json::Value;
 use std::alloc::Global;
 
@@ -103,7 +104,7 @@ fn verb(value: &Value) -> Result<Verb, Refusal>
 fn edit(alloc: Global, value: &Value, verb: Verb) -> Result<Command, Refusal>
     ensures { Reads result (edit_asked verb (view value.now)) }
 {
-    let change = change(alloc, value, verb, &["op", "doc", "rev", "token"])?;
+    let placed = change(alloc, value, verb, &["op", "doc", "rev", "token"])?;
     let doc = whole(value, "doc", 1)?;
     let rev = rev(value)?;
     let token = token(value)?;
@@ -111,7 +112,8 @@ fn edit(alloc: Global, value: &Value, verb: Verb) -> Result<Command, Refusal>
         doc,
         rev,
         token,
-        change,
+        change: placed.change,
     };
-    Ok(Command::Edit(Action::one(alloc, edit)))
+    let action = Action::one(alloc, edit);
+    Ok(Command::Edit(PlacedAction::new(action, placed.spots, Vec::new(alloc))))
 }

@@ -90,7 +90,7 @@ fn each_number(alloc: Global, items: &[Value]) -> Result<Numbers, Refusal>
 }
 
 /// A place that lasts, as a text.
-fn as_lasting(value: &Value) -> Option<Lasting>
+pub(crate) fn as_lasting(value: &Value) -> Option<Lasting>
     ensures { result ≡ as_lasting (view value.now) }
 {
     value.as_str().and_then(lasting)

@@ -1,5 +1,5 @@
 -- What a desk over a hub answers to a command, and what it makes of the hub.
-use Rattle.std.specs.Prelude.{◌≡◌, ◌≢◌, ◌⊎◌, ℕ, Bool, true, false, ◌&&◌, List, [], ◌∷◌, ◌++◌, length, if◌then◌else◌}
+use Rattle.std.specs.Prelude.{◌≡◌, ◌≢◌, ◌⊎◌, ℕ, ◌<◌, take, Bool, true, false, ◌&&◌, List, [], ◌∷◌, ◌++◌, length, if◌then◌else◌}
 use Rattle.std.specs.Prelude.{Option, Some, None, is_none}
 use Rattle.disk_trait.specs.declared.facts.DiskFacts.{Ghosts}
 use Rattle.op_model.specs.Actions.{Asked}
@@ -7,11 +7,13 @@ use Rattle.op_model.specs.declared.change_step.ChangeStep.{ChangeStep}
 use Rattle.op_model.specs.declared.lasting.Lasting.{Lasting}
 use Rattle.op_model.specs.declared.lasting.Neighbour.{Neighbour}
 use Rattle.op_model.specs.declared.op.Op.{Op}
+use Rattle.op_model.specs.Held.{ReplicaHeld}
 use Rattle.op_model.specs.Text.{text, rev}
 use Rattle.op_model.specs.Spans.{spans}
 use Rattle.op_model.specs.Machine.{Event, Answer as Reply, Ticket, edit, ack, ticket, acknowledged, refused, known_ticket}
 use Rattle.hub_parts.specs.declared.meeting.TheConstants.{BEGIN_TRIES}
 use Rattle.locked_replica.specs.Hub.{Parts, state_of}
+use Rattle.placed_edits.specs.Placed.{are_placed, asked_at, Placed}
 use Rattle.replica_core.specs.Changed.{AreChangesSince}
 use Rattle.replica_core.specs.Places.{anchors_of, are_within, places_of}
 use Rattle.replica_core.specs.RefusedAt.{place_told}
@@ -40,14 +42,18 @@ ServesSpans desk doc answer =
     let list = desk.hub.replica.list in
     (answer ≡ Spans (rev list doc) (spans list doc)) ⊎ (answer ≡ Refused Memory)
 
--- what changed in a document; or that its number of then, which is neither 0 nor that of now, isn't known any more or not yet; or out of memory
-abbrev pub AnswersChanges : List Op → ℕ → ℕ → Answer → Type 0
-AnswersChanges list doc since answer =
-    (answer ≡ Refused Memory) ⊎ (((answer ≡ Refused Stale) × (since ≢ 0) × (since ≢ rev list doc))
-    ⊎ ((steps : List ChangeStep) × (answer ≡ Changes (rev list doc) steps) × AreChangesSince list doc since steps))
+-- a document's number of operations isn't 0, and it had more when the hub was opened, or has fewer
+abbrev pub IsUnknownRev : ReplicaHeld → ℕ → ℕ → Type 0
+IsUnknownRev h doc since = (since ≢ 0) × ((since < rev (take h.opened h.list) doc) ⊎ (rev h.list doc < since))
+
+-- what changed in a document; or that its number of then isn't known any more, or not yet; or out of memory
+abbrev pub AnswersChanges : ReplicaHeld → ℕ → ℕ → Answer → Type 0
+AnswersChanges h doc since answer =
+    (answer ≡ Refused Memory) ⊎ (((answer ≡ Refused Stale) × IsUnknownRev h doc since)
+    ⊎ ((steps : List ChangeStep) × (answer ≡ Changes (rev h.list doc) steps) × AreChangesSince h.list doc since steps))
 
 abbrev pub ServesChanges : {D : Type 0} → HeldDesk D → ℕ → ℕ → Answer → Type 0
-ServesChanges desk doc since answer = AnswersChanges desk.hub.replica.list doc since answer
+ServesChanges desk doc since answer = AnswersChanges desk.hub.replica doc since answer
 
 -- places of a document that last, or that a number is beyond the end of its text
 abbrev pub anchors_answer : List Op → ℕ → List ℕ → Neighbour → Answer
@@ -142,6 +148,12 @@ module _ {D : Type 0} (facts : Ghosts D) where
     | false ↦ AnswersEdit old.session old.hub e answer new.hub × (new ≡ record old { hub = new.hub })
   ]
 
+  -- An edit at places that last is the action that they give by the hub's list. Or there was no memory for it, and nothing changes.
+  abbrev pub ServesPlaced : HeldDesk D → Placed → Answer → HeldDesk D → Type 0
+  ServesPlaced old p answer new =
+      ServesEdit old (asked_at old.hub.replica.list p) answer new
+      ⊎ ((are_placed p.spots ≡ true) × (answer ≡ Refused Memory) × (new ≡ old))
+
   -- a stop is answered where all is settled, or as failed
   abbrev pub answer_to_stop : Bool → Answer
   answer_to_stop true = Stopped
@@ -154,7 +166,7 @@ module _ {D : Type 0} (facts : Ghosts D) where
 
   -- what is answered to a command, and what the desk is then
   abbrev pub Serves : HeldDesk D → Command → Answer → HeldDesk D → Type 0
-  Serves old (command.Edit e) answer new = ServesEdit old e answer new
+  Serves old (command.Edit p) answer new = ServesPlaced old p answer new
   Serves old (command.Text doc) answer new = ServesText old doc answer × (new ≡ old)
   Serves old (command.Spans doc) answer new = ServesSpans old doc answer × (new ≡ old)
   Serves old (command.Changes doc since) answer new = ServesChanges old doc since answer × (new ≡ old)

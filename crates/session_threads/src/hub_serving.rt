@@ -1,6 +1,7 @@
 //! The commands that a desk over a hub serves.
 ghost use Rattle.std.specs.Prelude.{◌≡◌};
-ghost use Rattle.session_threads.specs.HubServing.{comes_too_late, ServesEdit, ServesText, ServesSpans};
+ghost use Rattle.session_threads.specs.HubServing.{comes_too_late, ServesEdit, ServesPlaced, ServesText};
+ghost use Rattle.session_threads.specs.HubServing.{ServesSpans};
 ghost use Rattle.session_threads.specs.HubServing.{ServesChanges, ServesAnchors, ServesPlaces, ServesStatus};
 ghost use Rattle.session_threads.specs.HubServing.{ServesPeers, ServesStop};
 
@@ -10,6 +11,7 @@ use crate::hub_desk::HubDesk;
 use crate::hub_edit::answer_edit;
 use disk_trait::Disk;
 use op_model::{Action, Neighbour};
+use placed_edits::PlacedAction;
 use session_lines::{
     Answer, ChangeList, Command, LastingList, Numbers, PeerList, PlaceList, Refusal, SpanList,
     State,
@@ -25,7 +27,7 @@ impl<D: Disk> Desk for HubDesk<D> {
 
     fn serve(&mut self, alloc: Global, command: Command) -> Answer {
         match command {
-            Command::Edit(edit) => self.edit(&edit),
+            Command::Edit(placed) => self.edit_placed(alloc, &placed),
             Command::Text { doc } => self.text(doc),
             Command::Spans { doc } => self.spans(doc),
             Command::Changes { doc, since } => self.changes(doc, since),
@@ -39,6 +41,19 @@ impl<D: Disk> Desk for HubDesk<D> {
 }
 
 impl<D: Disk> HubDesk<D> {
+    /// Makes an edit at places that last, or by numbers.
+    fn edit_placed(&mut self, alloc: Global, placed: &PlacedAction) -> Answer
+        ensures { ServesPlaced D.DiskFacts self.old placed.now result self.new }
+    {
+        if !placed.is_placed() {
+            return self.edit(placed.action());
+        }
+        match self.hub.asked(alloc, placed) {
+            Ok(edit) => self.edit(&edit),
+            Err(_) => Answer::Refused(Refusal::Memory),
+        }
+    }
+
     /// Makes an edit, unless it comes too late.
     fn edit(&mut self, edit: &Action) -> Answer
         ensures { ServesEdit D.DiskFacts self.old edit.now result self.new }

@@ -5,8 +5,10 @@ use Rattle.op_model.specs.declared.lasting.Lasting.{Lasting}
 use Rattle.op_model.specs.declared.lasting.Neighbour.{Neighbour}
 use Rattle.op_model.specs.Text.{text, rev}
 use Rattle.op_model.specs.Spans.{spans}
-use Rattle.op_model.specs.Machine.{Ticket, edit, ack, ticket, acknowledged, known_ticket}
+use Rattle.op_model.specs.Machine.{Ticket, ack, acknowledged, known_ticket}
+use Rattle.hub_parts.specs.Locked.{LockedHeld}
 use Rattle.hub_parts.specs.Refusal.{number_of as number_of_locked}
+use Rattle.placed_edits.specs.Placed.{are_placed, Placed}
 use Rattle.peer_counts.specs.declared.peer_counts.PeerCounts.{PeerCounts}
 use Rattle.session_lines.specs.Saying.{number_of}
 use Rattle.session_lines.specs.declared.command.Command.{Command}
@@ -24,7 +26,7 @@ use Rattle.session_threads.specs.HubCalls.{is_edit_refusal as is_hub_refusal}
 use Rattle.shared_hub.specs.Books.{PassHeld}
 use Rattle.shared_hub.specs.Guarded.{after_ticket}
 use Rattle.shared_hub.specs.Peers.{IsCounted}
-use Rattle.shared_hub.specs.Shared.{EntersTo, Moment, MomentOf, RefusesEdit}
+use Rattle.shared_hub.specs.Shared.{asked_then, EntersAsked, EntersTo, Moment, MomentOf, RefusesAsked}
 use Rattle.shared_hub.specs.declared.refusal.SharedRefusal.{SharedRefusal}
 use Rattle.shared_hub.specs.declared.refusal.SharedRefusal.TheVariants as refused_as
 
@@ -34,43 +36,50 @@ is_edit_refusal (refused_as.Locked e) = is_hub_refusal (number_of_locked e)
 is_edit_refusal (refused_as.Change e at) = is_hub_refusal (number_of_locked e)
 is_edit_refusal refused_as.Stopping = true
 
--- the hub gave a ticket for the edit, and later the ticket was acknowledged, each at a moment that the pass has entered: only so an edit is
--- answered
-pub record IsAcknowledged (old : PassHeld) (e : Asked) (rev : ℕ) (new : PassHeld) : Type 0 where
+-- the hub gave a ticket for the edit that is asked for, and later the ticket was acknowledged, each at a moment that the pass has entered: only
+-- so an edit is answered
+pub record IsAcknowledged (old : PassHeld) (asks : LockedHeld → Asked) (rev : ℕ) (new : PassHeld) : Type 0 where
   pub given : Ticket
   pub between : PassHeld
-  pub edited : EntersTo old (after_ticket given old) between (edit old.number e) (ticket given)
+  pub edited : EntersAsked asks old (after_ticket given old) between given
   pub acked : EntersTo between between new (ack given) (acknowledged true)
   pub same : given.rev ≡ rev
 
 -- the hub gave a ticket, which at some moment wasn't settled; what became of it isn't known: the device failed, or no commit could
 -- begin
-pub record IsLeftOpen (old : PassHeld) (e : Asked) (new : PassHeld) : Type 0 where
+pub record IsLeftOpen (old : PassHeld) (asks : LockedHeld → Asked) (new : PassHeld) : Type 0 where
   pub given : Ticket
-  pub edited : EntersTo old (after_ticket given old) new (edit old.number e) (ticket given)
+  pub edited : EntersAsked asks old (after_ticket given old) new given
   pub unsettled : MomentOf new (λ l. l.replica.settled < given.end)
 
 -- the hub refused the edit with this number, and for this one of several changes, if it was for one; or it was asked to stop before, and at
 -- some moment no edit was made under its token
-pub record IsRefusedEdit (old : PassHeld) (e : Asked) (refusal : Refusal) (place : Option ℕ) (new : PassHeld) : Type 0 where
+pub record IsRefusedEdit (old : PassHeld) (asks : LockedHeld → Asked) (refusal : Refusal) (place : Option ℕ) (new : PassHeld) : Type 0 where
   pub same : new ≡ old
-  pub cause : refusal ≢ Stopping → RefusesEdit old e (number_of refusal) place
-  pub stopped : refusal ≡ Stopping → MomentOf old (λ l. known_ticket l.replica e ≡ None)
+  pub cause : refusal ≢ Stopping → RefusesAsked asks old (number_of refusal) place
+  pub stopped : refusal ≡ Stopping → MomentOf old (λ l. known_ticket l.replica (asks l) ≡ None)
 
--- an edit is acknowledged; or the hub refused it so; or it is answered as failed
-abbrev pub ServesEdit : PassHeld → Asked → Answer → PassHeld → Type 0
-ServesEdit old e (Edited rev) new = IsAcknowledged old e rev new
-ServesEdit old e (Refused refusal) new = IsRefusedEdit old e refusal None new ⊎ ((refusal ≡ Failed) × IsLeftOpen old e new)
-ServesEdit old e (RefusedAt refusal at) new = (refusal ≢ Stopping) × IsRefusedEdit old e refusal (Some at) new
-ServesEdit old e (Text rev t) new = ⊥
-ServesEdit old e (Spans rev s) new = ⊥
-ServesEdit old e (Changes rev changes) new = ⊥
-ServesEdit old e (Anchors rev anchors) new = ⊥
-ServesEdit old e (Places rev places) new = ⊥
-ServesEdit old e (Status applied settled s) new = ⊥
-ServesEdit old e (Peers peers sessions) new = ⊥
-ServesEdit old e Stopped new = ⊥
-ServesEdit old e Done new = ⊥
+-- an edit is acknowledged; or the hub refused it so; or it is answered as failed: what it asks for is by what stood under the lock
+abbrev pub ServesEdit : PassHeld → (LockedHeld → Asked) → Answer → PassHeld → Type 0
+ServesEdit old asks (Edited rev) new = IsAcknowledged old asks rev new
+ServesEdit old asks (Refused refusal) new =
+    IsRefusedEdit old asks refusal None new ⊎ ((refusal ≡ Failed) × IsLeftOpen old asks new)
+ServesEdit old asks (RefusedAt refusal at) new = (refusal ≢ Stopping) × IsRefusedEdit old asks refusal (Some at) new
+ServesEdit old asks (Text rev t) new = ⊥
+ServesEdit old asks (Spans rev s) new = ⊥
+ServesEdit old asks (Changes rev changes) new = ⊥
+ServesEdit old asks (Anchors rev anchors) new = ⊥
+ServesEdit old asks (Places rev places) new = ⊥
+ServesEdit old asks (Status applied settled s) new = ⊥
+ServesEdit old asks (Peers peers sessions) new = ⊥
+ServesEdit old asks Stopped new = ⊥
+ServesEdit old asks Done new = ⊥
+
+-- an edit at places that last, or by numbers; or there was no memory for what its places give
+abbrev pub ServesPlaced : PassHeld → Placed → Answer → PassHeld → Type 0
+ServesPlaced old p answer new =
+    ServesEdit old (asked_then p) answer new
+    ⊎ ((are_placed p.spots ≡ true) × (answer ≡ Refused Memory) × (new ≡ old))
 
 -- the text of a document at some moment, at which the pass's entries were the kept steps of its number; or out of memory
 abbrev pub ServesText : PassHeld → ℕ → Answer → PassHeld → Type 0
@@ -91,7 +100,7 @@ abbrev pub ServesChanges : PassHeld → ℕ → ℕ → Answer → PassHeld → 
 ServesChanges old doc since answer new =
     (new ≡ old)
     × ((answer ≡ Refused Memory)
-    ⊎ MomentOf old (λ l. AnswersChanges l.replica.list doc since answer))
+    ⊎ MomentOf old (λ l. AnswersChanges l.replica doc since answer))
 
 -- places of a document that last, at some moment, or that a number was beyond the end of its text; or out of memory
 abbrev pub ServesAnchors : PassHeld → ℕ → List ℕ → Neighbour → Answer → PassHeld → Type 0
@@ -137,7 +146,7 @@ ServesStop old answer new =
 
 -- what is answered to a command, and what the pass is then
 abbrev pub Serves : PassHeld → Command → Answer → PassHeld → Type 0
-Serves old (command.Edit e) answer new = ServesEdit old e answer new
+Serves old (command.Edit p) answer new = ServesPlaced old p answer new
 Serves old (command.Text doc) answer new = ServesText old doc answer new
 Serves old (command.Spans doc) answer new = ServesSpans old doc answer new
 Serves old (command.Changes doc since) answer new = ServesChanges old doc since answer new

@@ -7,14 +7,15 @@ ghost use Rattle.session_threads.specs.HubCalls.{is_edit_refusal as is_hub_refus
 ghost use Rattle.session_threads.specs.HubServing.{refused_answer as refused_answer_of};
 ghost use Rattle.shared_hub.specs.Refusal.{number_of as number_of_shared};
 ghost use Rattle.shared_hub.specs.declared.refusal.SharedRefusal.TheVariants.{Stopping as AskedToStop};
-ghost use Rattle.shared_desk.specs.Serving.{is_edit_refusal, ServesEdit, ServesText, ServesSpans, ServesChanges, ServesAnchors, ServesPlaces};
+ghost use Rattle.shared_desk.specs.Serving.{is_edit_refusal, ServesPlaced, ServesText, ServesSpans, ServesChanges, ServesAnchors, ServesPlaces};
 ghost use Rattle.shared_desk.specs.Serving.{ServesStatus, ServesPeers, ServesStop};
 
 use crate::desk::SharedDesk;
 use crate::ending::End;
 use hub_parts::LockedRefusal;
-use op_model::{Action, Neighbour};
+use op_model::Neighbour;
 use pass_books::BookNames;
+use placed_edits::PlacedAction;
 use session_lines::{
     Answer, ChangeList, Command, LastingList, Numbers, PeerList, PlaceList, Refusal, SpanList,
     State,
@@ -35,7 +36,7 @@ impl<'a, R: Wait, J: BookNames, C: Checkpoint> Desk for SharedDesk<'a, R, J, C> 
 
     fn serve(&mut self, alloc: Global, command: Command) -> Answer {
         match command {
-            Command::Edit(edit) => self.edit(&edit),
+            Command::Edit(placed) => self.edit(alloc, &placed),
             Command::Text { doc } => self.text(doc),
             Command::Spans { doc } => self.spans(doc),
             Command::Changes { doc, since } => self.changes(doc, since),
@@ -49,16 +50,17 @@ impl<'a, R: Wait, J: BookNames, C: Checkpoint> Desk for SharedDesk<'a, R, J, C> 
 }
 
 impl<'a, R: Wait, J: BookNames, C: Checkpoint> SharedDesk<'a, R, J, C> {
-    /// Makes an edit, and waits until it is settled: it is answered only if it is acknowledged. One
-    /// that was made before, under its token, isn't refused after a stop, and if it is settled, not
-    /// after a failure. One that finds no steps left (10) asks the daemon to open its file anew.
-    fn edit(&mut self, edit: &Action) -> Answer
-        ensures { ServesEdit self.old edit.now result self.new }
+    /// Makes an edit, at places that last or by numbers, and waits until it is settled: it is
+    /// answered only if it is acknowledged. One that was made before, under its token, isn't
+    /// refused after a stop, and if it is settled, not after a failure. One that finds no steps
+    /// left (10) asks the daemon to open its file anew.
+    fn edit(&mut self, alloc: Global, placed: &PlacedAction) -> Answer
+        ensures { ServesPlaced self.old placed.now result self.new }
     {
         match self
             .daemon
             .shared
-            .edit(self.daemon.rt, &mut self.pass, edit)
+            .edit_placed(self.daemon.rt, alloc, &mut self.pass, placed)
         {
             Ok(ticket) => {
                 self.daemon.checkpoint.pass(Point::BeforeWait);

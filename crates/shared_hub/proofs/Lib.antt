@@ -9,4 +9,5 @@ mod OpeningLemmas
 mod PeerLemmas
 pub mod PromiseLemmas
 mod RefusedLemmas
+mod AskedLemmas
 mod WatchLemmas

@@ -11,7 +11,7 @@ use Rattle.shared_hub.specs.declared.refusal.SharedRefusal.{SharedRefusal}
 use Rattle.shared_hub.specs.declared.refusal.SharedRefusal.TheVariants.{Stopping}
 
 -- the step that refused it, with the change that it is for, at the same moment
-pub refused_so : (result : Result Ticket SharedRefusal) (e : Asked) (before after : GuardedHeld) (old new : PassHeld)
+unfoldable pub refused_so : (result : Result Ticket SharedRefusal) (e : Asked) (before after : GuardedHeld) (old new : PassHeld)
     → (result ≢ Err Stopping → MakesFor before.locked after.locked old new (edit old.number e) (edited result))
     → EntersEdit result e before old after new → IfErr result (λ r. r ≢ Stopping → RefusesEdit old e (number_of r) (told_at r))
 refused_so (Ok t) e before after old new call enters = tt

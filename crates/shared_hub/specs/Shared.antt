@@ -3,12 +3,13 @@ use Rattle.std.specs.Prelude.{◌≡◌, ℕ, Option, Result}
 use Rattle.disk_trait.specs.declared.facts.DiskFacts.{Ghosts}
 use Rattle.group_commit.specs.declared.error.StoreError.{StoreError}
 use Rattle.op_model.specs.Actions.{Asked}
-use Rattle.op_model.specs.Machine.{Event, Answer, Step, edit, refused}
+use Rattle.op_model.specs.Machine.{Event, Answer, Step, Ticket, edit, ticket, refused}
 use Rattle.hub_parts.specs.Locked.{IsLocked, state_of, LockedHeld}
 use Rattle.hub_parts.specs.Fitting.{FitTogether, side_of}
 use Rattle.hub_parts.specs.Flusher.{FlusherHeld}
 use Rattle.hub_parts.specs.Meeting.{Meets}
 use Rattle.hub_parts.specs.declared.met.Met.{Met}
+use Rattle.placed_edits.specs.Placed.{asked_at, Placed}
 use Rattle.replica_core.specs.RefusedAt.{place_told}
 use Rattle.shared_hub.specs.Books.{PassHeld, ends_of}
 use Rattle.shared_hub.specs.Going.{Goes}
@@ -60,6 +61,22 @@ pub record RefusesEdit (pass : PassHeld) (e : Asked) (n : ℕ) (place : Option �
   pub after : LockedHeld
   pub makes : MakesFor before after pass pass (edit pass.number e) (refused n)
   pub told : place ≡ place_told before.replica e n
+
+-- the action that an edit at places that last asks for, where the locked part is so
+abbrev pub asked_then : Placed → LockedHeld → Asked
+asked_then placed l = asked_at l.replica.list placed
+
+-- while the lock was held once, the action that the text of then gave was made and entered, with this ticket
+pub record EntersAsked (asks : LockedHeld → Asked) (old left new : PassHeld) (t : Ticket) : Type 0 where
+  pub asked : Asked
+  pub entered : EntersTo old left new (edit old.number asked) (ticket t)
+  pub of_then : asked ≡ asks entered.before
+
+-- while the lock was held once, the action that the text of then gave was refused
+pub record RefusesAsked (asks : LockedHeld → Asked) (pass : PassHeld) (n : ℕ) (place : Option ℕ) : Type 0 where
+  pub asked : Asked
+  pub refuses : RefusesEdit pass asked n place
+  pub of_then : asked ≡ asks refuses.before
 
 -- A meeting of the locked part and the flusher that fits it. Both are sound before and after it and fit together, and the flusher has gone
 -- on.

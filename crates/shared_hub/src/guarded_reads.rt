@@ -2,6 +2,7 @@
 ghost use Rattle.std.specs.Prelude.{◌≡◌, All, IfOk, IfSome, is_some, length};
 ghost use Rattle.op_model.specs.Spans.{spans as spans_of};
 ghost use Rattle.op_model.specs.Text.{text as text_of, rev as rev_of};
+ghost use Rattle.placed_edits.specs.Placed.{asked_at};
 ghost use Rattle.replica_core.specs.Changed.{TellsChanges};
 ghost use Rattle.replica_core.specs.Places.{anchors_of, are_within, places_of};
 ghost use Rattle.replica_core.specs.RefusedAt.{refused_at as refused_at_of};
@@ -17,6 +18,7 @@ use crate::watched::Watched;
 use op_model::{Action, ChangeStep, Lasting, Neighbour, Span, Text};
 use pass_books::BookNames;
 use peer_counts::PeerCounts;
+use placed_edits::PlacedAction;
 use std::alloc::{AllocError, Global};
 
 impl<J: BookNames> Guarded<J> {
@@ -44,6 +46,15 @@ impl<J: BookNames> Guarded<J> {
             self.now.locked.replica.replica edit.now }
     {
         self.locked.refused_at(edit)
+    }
+
+    /// The action by numbers that an edit at places that last asks for. An error is out of memory
+    /// (1). Costs what `Locked::asked` does.
+    pub(crate) fn asked(&self, alloc: Global, placed: &PlacedAction) -> Result<Action, AllocError>
+        ensures { IfOk result (λ action. action
+            ≡ asked_at self.now.locked.replica.list placed.now) }
+    {
+        self.locked.asked(alloc, placed)
     }
 
     /// The text of a document, unsettled operations included. An error is out of memory (1). Costs
@@ -80,8 +91,8 @@ impl<J: BookNames> Guarded<J> {
         since: usize,
     ) -> Result<Shown<Option<Vec<ChangeStep>>>, AllocError>
         ensures rev { IfOk result (λ it. it.rev ≡ rev_of self.now.locked.replica.list doc) }
-        ensures changes { IfOk result
-            (λ it. TellsChanges self.now.locked.replica.list doc since it.content) }
+        ensures changes { IfOk result (λ it. TellsChanges self.now.locked.replica.list
+            self.now.locked.replica.opened doc since it.content) }
     {
         Ok(Shown {
             rev: self.locked.rev(doc) as u64,

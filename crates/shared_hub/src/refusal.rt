@@ -3,6 +3,7 @@ ghost use Rattle.std.specs.Prelude.{◌≡◌};
 
 use fixed_numbers::refusals::STOPPING;
 use hub_parts::LockedRefusal;
+use replica_core::Refusal;
 use thiserror::Error;
 
 /// Why a shared hub refuses a call, which then changes nothing.
@@ -20,7 +21,19 @@ pub enum SharedRefusal {
 }
 
 impl SharedRefusal {
+    ghost use Rattle.std.specs.Prelude.{◌≢◌, None};
+    ghost use Rattle.fixed_numbers.specs.declared.refusals.TheConstants.{MEMORY};
     ghost use Rattle.shared_hub.specs.Refusal.{number_of, told_at};
+    ghost use Rattle.shared_hub.specs.declared.refusal.SharedRefusal.TheVariants.{Stopping};
+
+    /// 1: a growth was refused.
+    pub(crate) fn out_of_memory() -> SharedRefusal
+        ensures number { number_of result ≡ MEMORY }
+        ensures whole { told_at result ≡ None }
+        ensures other { result ≢ Stopping }
+    {
+        SharedRefusal::Locked(LockedRefusal::Replica(Refusal::Memory))
+    }
 
     /// The number of the refusal.
     pub fn number(self) -> u8

@@ -1,11 +1,12 @@
 //! A hub that threads share.
-ghost use Rattle.std.specs.Prelude.{◌≡◌, ◌≢◌, None, Err, IfOk, IfErr, OnErr, nat_lt};
+ghost use Rattle.std.specs.Prelude.{◌≡◌, ◌≢◌, ◌⊎◌, None, Err, IfOk, IfErr, OnErr, nat_lt};
 ghost use Rattle.fixed_numbers.specs.declared.refusals.TheConstants.{MEMORY};
 ghost use Rattle.op_model.specs.Machine.{edit as edit_event, known_ticket, merge as merge_event};
 ghost use Rattle.op_model.specs.Machine.{tell as tell_event, have as have_event};
 ghost use Rattle.op_model.specs.Machine.{ticket, operations, clock as clock_answer};
 ghost use Rattle.shared_hub.specs.Guarded.{after_ticket, Merges};
-ghost use Rattle.shared_hub.specs.Refusal.{merged, number_of, told_at};
+ghost use Rattle.shared_hub.specs.Refusal.{merged, number_of, told_at, IsWithoutMemory};
+ghost use Rattle.shared_hub.specs.Shared.{asked_then, EntersAsked, RefusesAsked};
 ghost use Rattle.shared_hub.specs.Shared.{EntersTo, HappensTo, MomentOf, MeetsOnce, Moment, RefusesEdit};
 ghost use Rattle.shared_hub.specs.declared.refusal.SharedRefusal.TheVariants.{Stopping};
 ghost use Rattle.op_ids.specs.Clock.{count_of};
@@ -24,7 +25,9 @@ use hub_parts::Met;
 use op_ids::Clock;
 use op_model::{Action, Op};
 use pass_books::BookNames;
+use placed_edits::PlacedAction;
 use replica_core::{Merged, Ticket};
+use std::alloc::Global;
 use std::sync::{Condvar, Mutex, Wait};
 
 /// A hub that threads share: its locked part stands under one lock, with the books of the passes.
@@ -88,6 +91,41 @@ impl<J: BookNames> Shared<J> {
     {
         let mut guard = self.guarded.lock(rt);
         let result = guard.edit(pass, edit);
+        let is_due = guard.wakes_flusher();
+        drop(guard);
+        self.wake_flusher(is_due);
+        result
+    }
+
+    /// Makes an edit at places that last: under one holding of the lock they are looked up, and
+    /// what they give is made as `edit` makes it, so nothing comes between. Refuses as `edit` does,
+    /// and with 1 if there is no memory for what they give. Costs what `Locked::asked` and `edit`
+    /// do; an edit by numbers alone costs `edit`.
+    pub fn edit_placed<R: Wait>(
+        &self,
+        rt: &R,
+        alloc: Global,
+        pass: &mut Pass<J>,
+        placed: &PlacedAction,
+    ) -> Result<Ticket, SharedRefusal>
+        ensures entered { IfOk result (λ t. EntersAsked (asked_then placed.now) pass.old
+            (after_ticket t pass.old) pass.new t) }
+        ensures same { OnErr result (pass.new ≡ pass.old) }
+        ensures stopping { result ≡ Err Stopping → MomentOf pass.old
+            (λ l. known_ticket l.replica (asked_then placed.now l) ≡ None) }
+        ensures refused { IfErr result (λ e. e ≢ Stopping
+            → RefusesAsked (asked_then placed.now) pass.old (number_of e) (told_at e)
+            ⊎ IsWithoutMemory placed.now e) }
+    {
+        let mut guard = self.guarded.lock(rt);
+        let result = if placed.is_placed() {
+            match guard.asked(alloc, placed) {
+                Ok(edit) => guard.edit(pass, &edit),
+                Err(_) => Err(SharedRefusal::out_of_memory()),
+            }
+        } else {
+            guard.edit(pass, placed.action())
+        };
         let is_due = guard.wakes_flusher();
         drop(guard);
         self.wake_flusher(is_due);

@@ -81,7 +81,7 @@ impl<J: BookNames> Shared<J> {
         ensures same { pass.new ≡ pass.old }
         ensures moment { IfOk result (λ it. MomentOf pass.old
             (λ l. (it.rev ≡ rev_of l.replica.list doc)
-            × TellsChanges l.replica.list doc since it.content)) }
+            × TellsChanges l.replica.list l.replica.opened doc since it.content)) }
     {
         let mut guard = self.guarded.lock(rt);
         guard.audit(pass);

@@ -1,7 +1,7 @@
 // What a program in TypeScript may write, and what it may not: `@ts-expect-error` is an error itself if the line below it is none.
 
 import { EM, Following, Reading, STRONG, Session, Stale, applied, connect, delta, follow, init, link, open, watch } from "peritext";
-import type { Change, Edit, EditOptions, Mark, Reset, Span, Step, Transport } from "peritext";
+import type { Change, Edit, EditOptions, Lasting, Mark, PlacedEdit, Reset, Span, Step, Transport } from "peritext";
 import { bind as bindText } from "peritext/codemirror";
 import { bind } from "peritext/prosemirror";
 import { bind as bindContents } from "peritext/quill";
@@ -23,11 +23,17 @@ export async function edits(signal: AbortSignal): Promise<number> {
   await document.unmark(0, 1, link(), { rev });
   const list: Edit[] = [{ op: "delete", at: 4, count: 3 }, { op: "insert", at: 4, text: "TWO" }, { op: "mark", from: 4, to: 7, ...EM }];
   await document.action(list, { parted: true, signal });
-  const anchors: string[] = await document.anchors([1, 2], "next", { rev });
+  const anchors: Lasting[] = await document.anchors([1, 2], "next", { rev });
+  await document.insert(anchors[0], "x", { signal });
+  await document.mark("start", anchors[1], STRONG);
+  const placed: PlacedEdit[] = [...list, { op: "insert", at: "end", text: "!" }, { op: "unmark", from: 0, to: `a7@${replica}`, kind: "em" }];
+  await document.action(placed);
   const places: (number | null)[] = await document.places(anchors, rev, { signal });
   const { peers, sessions } = await session.peers({ signal });
-  // @ts-expect-error: a text has no number of its own
+  // @ts-expect-error: a text is no number, nor any place that lasts
   await document.insert("0", "x");
+  // @ts-expect-error: a reading counts in its own text
+  await (await document.read()).action(placed);
   // @ts-expect-error: there is no such option
   await document.insert(0, "x", { reverse: 3 });
   // @ts-expect-error: a controller is no signal

@@ -13,7 +13,7 @@
 [Span(text='The '), Span(text='quick', strong=True), Span(text=' fox')]
 """
 
-from .action import Action
+from .action import Action, Lasting
 from .changing import Changes, Delete, Insert, Retain, Step, applied
 from .daemon import connect
 from .document import Document, Reading
@@ -38,6 +38,7 @@ __all__ = [
     "Follow",
     "Followed",
     "Insert",
+    "Lasting",
     "Link",
     "Mark",
     "Marks",

@@ -3,19 +3,23 @@
 from __future__ import annotations
 
 from types import TracebackType
-from typing import TYPE_CHECKING, Any, Iterable, Iterator, Mapping, NamedTuple
+from typing import TYPE_CHECKING, Any, Iterable, Iterator, Literal, Mapping, NamedTuple, NewType, Sequence, Union
 from uuid import UUID
 
 from .again import NEVER
 from .lines import line_of
 from .marks import Mark
-from .rules import LONGEST, MANY, is_whole
+from .rules import LONGEST, MANY, broken, is_lasting, is_long, is_whole, lasting_of
 
 if TYPE_CHECKING:
     from .document import Document
 
 # The fields of an edit, as a request spells them.
 Fields = Mapping[str, Any]
+# The name of a place that lasts, as `anchor` gives it; a text that was kept is one by `Lasting(text)`.
+Lasting = NewType("Lasting", str)
+# A place of an edit: how many characters are before it, or a place that lasts.
+Place = Union[int, Lasting, Literal["start", "end"]]
 # How many bytes a line may have.
 LINE = 65_536
 # What stands around the edits of a line, as long as it can be: a call that is sent again is parted as it was.
@@ -23,17 +27,22 @@ AROUND = {"op": "edits", "doc": NEVER, "rev": NEVER, "token": f"urn:uuid:{UUID(i
 ROOM = LINE - len(line_of(AROUND))
 # How many characters a line takes away, where edits may be parted: in any file so many can wait together for the disk.
 TAKEN = 2_048
+# A number that no place of a text has: one whose character isn't known is refused as such a number is (5).
+BEYOND = 2**31
 
 
 class Piece(NamedTuple):
-    """An edit as it is sent, of at most 256 characters, and which one it is of those that the caller made at once."""
+    """An edit as it is sent, of at most 256 characters, and which one it is of those that the caller made at once. It counts for some bytes more
+    than it has if its numbers may be longer where the call is sent again."""
 
     edit: dict[str, Any]
     number: int | None = None
+    more: int = 0
 
 
 class Collected:
-    """Edits of a document that are made at once later on, each at the places that those before it leave.
+    """Edits of a document that are made at once later on, each at the places that those before it leave. A place is a number of characters, or one
+    that lasts: that is where its character is before the first of the edits, moved by those that stand before its own.
 
     `rev` is the document's behind them, once they are made.
     """
@@ -43,19 +52,19 @@ class Collected:
         self._edits: list[Fields] = []
         self._is_over = False
 
-    def insert(self, at: int, text: str) -> None:
+    def insert(self, at: Place, text: str) -> None:
         """Puts characters before the one at a place, or at the end."""
         self._add(inserting(at, text))
 
-    def delete(self, at: int, count: int) -> None:
+    def delete(self, at: Place, count: int) -> None:
         """Takes characters away from a place on."""
         self._add(deleting(at, count))
 
-    def mark(self, start: int, end: int, mark: Mark) -> None:
+    def mark(self, start: Place, end: Place, mark: Mark) -> None:
         """Marks the characters from a place up to another, that one not included."""
         self._add(marking(start, end, mark))
 
-    def unmark(self, start: int, end: int, mark: Mark) -> None:
+    def unmark(self, start: Place, end: Place, mark: Mark) -> None:
         """Takes a mark away from the characters from a place up to another, that one not included."""
         self._add(unmarking(start, end, mark))
 
@@ -89,7 +98,7 @@ class Action(Collected):
             self.rev = self._document.edits(edits, *self._given)
 
 
-def inserting(at: int, text: str) -> dict[str, Any]:
+def inserting(at: Place, text: str) -> dict[str, Any]:
     if not text:
         raise ValueError("an empty text is no request")
     # What can't be sent is refused before a part of it is in.
@@ -97,23 +106,70 @@ def inserting(at: int, text: str) -> dict[str, Any]:
     return {"op": "insert", "at": at, "text": text}
 
 
-def deleting(at: int, count: int) -> dict[str, Any]:
+def deleting(at: Place, count: int) -> dict[str, Any]:
     return {"op": "delete", "at": at, "count": count}
 
 
-def marking(start: int, end: int, mark: Mark) -> dict[str, Any]:
+def marking(start: Place, end: Place, mark: Mark) -> dict[str, Any]:
     return {"op": "mark", "from": start, "to": end, **mark.fields()}
 
 
-def unmarking(start: int, end: int, mark: Mark) -> dict[str, Any]:
+def unmarking(start: Place, end: Place, mark: Mark) -> dict[str, Any]:
     return {"op": "unmark", "from": start, "to": end, **mark.key()}
 
 
-def pieces_of(edits: Iterable[Fields]) -> Iterator[Piece]:
+def pieces_of(edits: Sequence[Fields]) -> Iterator[Piece]:
     """Edits as they are sent."""
-    for number, edit in enumerate(edits):
+    for number, edit in _numbered(edits):
         for piece in cut(edit):
             yield Piece(piece, number)
+
+
+def by_numbers(edits: Sequence[Fields], numbers: Mapping[str, int]) -> Iterator[Piece]:
+    """Edits as they are sent by numbers alone, if so many characters are before each of their places before the first one.
+
+    >>> edits = [inserting("end", "ab"), deleting("start", 1), inserting("end", "c")]
+    >>> [piece.edit["at"] for piece in by_numbers(edits, {"start": 0, "end": 7})]
+    [7, 0, 8]
+    """
+    done: list[Fields] = []
+    for number, edit in _numbered(edits):
+        lasting = lasting_of(edit)
+        made = {**edit, **{name: moved_through(place, numbers[place], done) for name, place in lasting.items()}}
+        if not broken({**made, "doc": 1}):
+            done.append(made)
+        for piece in cut(made):
+            yield Piece(piece, number, sum(len(str(NEVER)) - len(str(piece[name])) for name in lasting))
+
+
+def _numbered(edits: Sequence[Fields]) -> Iterator[tuple[int | None, Fields]]:
+    """Edits with the numbers by which a refusal tells which one it is about: one alone has none."""
+    return zip([None] if len(edits) == 1 else range(len(edits)), edits)
+
+
+def moved_through(place: str, number: int, edits: Iterable[Fields]) -> int:
+    """How many characters are before a place after edits by numbers, as the program counts.
+
+    >>> moved_through("a7@", 3, [inserting(3, "ab")]), moved_through("b8@", 3, [inserting(3, "ab")]), moved_through("end", 3, [deleting(1, 9)])
+    (3, 5, 1)
+    """
+    for edit in edits:
+        at = edit.get("at", BEYOND)
+        if edit["op"] == "insert" and (at < number or (at == number and stays_with_next(place))):
+            number += len(edit["text"])
+        elif edit["op"] == "delete" and at < number:
+            number = max(at, number - edit["count"])
+    return number
+
+
+def stays_with_next(place: str) -> bool:
+    """Whether what is put in at a place comes before it."""
+    return place[0] in "be"
+
+
+def needs_number(edit: Fields) -> bool:
+    """Whether an edit at a place isn't made up of shorter ones at places: the end of a text that was put in just after a character has no name."""
+    return is_long(edit) and is_lasting(edit.get("at"))
 
 
 def cut(edit: Fields) -> Iterator[dict[str, Any]]:
@@ -122,19 +178,36 @@ def cut(edit: Fields) -> Iterator[dict[str, Any]]:
 
     >>> [piece["at"] for piece in cut(inserting(7, "x" * 600))], [piece["at"] for piece in cut(deleting(7, 600))]
     ([7, 263, 519], [351, 95, 7])
+
+    At a place that lasts, what is put in moves it on if it stays with the next character, and what is taken away leaves it there.
+
+    >>> [piece["at"] for piece in cut(inserting("end", "x" * 600))], [piece["count"] for piece in cut(deleting("start", 600))]
+    (['end', 'end', 'end'], [256, 256, 88])
     """
     at: Any = edit.get("at")
     text: Any = edit.get("text")
     count: Any = edit.get("count")
-    if edit.get("op") == "insert" and is_whole(at, 0) and isinstance(text, str) and len(text) > LONGEST:
-        for first in range(0, len(text), LONGEST):
-            yield {**edit, "at": at + first, "text": text[first : first + LONGEST]}
-    elif edit.get("op") == "delete" and is_whole(at, 0) and is_whole(count, LONGEST):
+    if edit.get("op") == "insert" and isinstance(text, str) and len(text) > LONGEST and (is_whole(at, 0) or is_lasting(at)):
+        yield from _cut_insert(edit, at, text)
+    elif edit.get("op") == "delete" and is_whole(count, LONGEST) and is_whole(at, 0):
         for end in range(count, 0, -LONGEST):
             first = max(end - LONGEST, 0)
             yield {**edit, "at": at + first, "count": end - first}
+    elif edit.get("op") == "delete" and is_whole(count, LONGEST) and is_lasting(at):
+        for left in range(count, 0, -LONGEST):
+            yield {**edit, "count": min(left, LONGEST)}
     else:
         yield dict(edit)
+
+
+def _cut_insert(edit: Fields, at: Place, text: str) -> Iterator[dict[str, Any]]:
+    """The start of the text is a number as well."""
+    number = 0 if at == "start" else at
+    if isinstance(number, str) and not stays_with_next(number):
+        yield dict(edit)
+        return
+    for first in range(0, len(text), LONGEST):
+        yield {**edit, "at": number if isinstance(number, str) else number + first, "text": text[first : first + LONGEST]}
 
 
 def lines_of(pieces: Iterable[Piece], parted: bool) -> Iterator[list[Piece]]:
@@ -144,7 +217,7 @@ def lines_of(pieces: Iterable[Piece], parted: bool) -> Iterator[list[Piece]]:
     taken = 0
     for piece in pieces:
         # A comma and a space stand between two.
-        size, count = len(line_of(piece.edit)) + 1, _taken_by(piece.edit)
+        size, count = len(line_of(piece.edit)) + piece.more + 1, _taken_by(piece.edit)
         if line and (len(line) == MANY or size > room or (parted and taken + count > TAKEN)):
             if not parted:
                 raise ValueError(f"one line takes {MANY:,} edits, of at most 256 characters each, and {LINE:,} bytes: make several actions, or let it be parted")

@@ -6,14 +6,15 @@ and an event loop (`aio`) run the same ones.
 
 from __future__ import annotations
 
-from typing import Any, Dict, Generator, Iterable, Iterator, List, NamedTuple, Protocol, TypeVar
-from uuid import UUID, uuid5
+from typing import Any, Dict, Generator, Iterable, Iterator, List, NamedTuple, Optional, Protocol, Sequence, TypeVar
+from uuid import UUID, uuid4, uuid5
 
-from .action import Fields, Piece, cut, deleting, inserting, lines_of, marking, pieces_of, unmarking
+from .action import BEYOND, Fields, Lasting, Piece, Place, by_numbers, cut, deleting, inserting, lines_of, marking, needs_number, pieces_of, unmarking
+from .again import NEVER
 from .changing import Changes, step_of
 from .marks import Mark, Span
 from .refusals import Refused, Stale
-from .rules import LONGEST, MOST, is_whole
+from .rules import LONGEST, MOST, is_lasting, is_whole, lasting_of
 
 # How often several requests are made, until all are answered at one `rev`.
 ROUNDS = 8
@@ -32,6 +33,14 @@ class Reading(NamedTuple):
     rev: int
 
 
+class Part(NamedTuple):
+    """The fields of a request that makes a part of a call, how much was made before, and which edits of the caller's it has."""
+
+    fields: Request
+    made: int
+    numbers: List[Optional[int]]
+
+
 class Known(Protocol):
     """What a call has to know of its session: how many connections have ended, and whether it was told a `rev` of a document."""
 
@@ -47,23 +56,26 @@ class Calls:
         self.session = session
         self.number = number
 
-    def insert(self, at: int, text: str, rev: int | None, token: UUID | None) -> Call[int]:
+    def insert(self, at: Place, text: str, rev: int | None, token: UUID | None) -> Call[int]:
         edit = inserting(at, text)
-        if len(text) <= LONGEST or not is_whole(at, 0):
+        if len(text) <= LONGEST or not (is_whole(at, 0) or is_lasting(at)):
             return self._edit(edit, rev, token)
-        return self._make((Piece(piece) for piece in cut(edit)), rev, token, parted=True)
+        return self._make([edit], rev, token, parted=True)
 
-    def delete(self, at: int, count: int, rev: int | None, token: UUID | None) -> Call[int]:
-        return self._edit_all(cut(deleting(at, count)), rev, token)
+    def delete(self, at: Place, count: int, rev: int | None, token: UUID | None) -> Call[int]:
+        edit = deleting(at, count)
+        if is_lasting(at) and is_whole(count, LONGEST + 1):
+            return self._make([edit], rev, token, parted=True)
+        return self._edit_all(_stretches(edit), rev, token)
 
-    def mark(self, start: int, end: int, mark: Mark, rev: int | None, token: UUID | None) -> Call[int]:
+    def mark(self, start: Place, end: Place, mark: Mark, rev: int | None, token: UUID | None) -> Call[int]:
         return self._edit(marking(start, end, mark), rev, token)
 
-    def unmark(self, start: int, end: int, mark: Mark, rev: int | None, token: UUID | None) -> Call[int]:
+    def unmark(self, start: Place, end: Place, mark: Mark, rev: int | None, token: UUID | None) -> Call[int]:
         return self._edit(unmarking(start, end, mark), rev, token)
 
     def edits(self, edits: Iterable[Fields], rev: int | None, token: UUID | None, parted: bool) -> Call[int]:
-        return self._make(pieces_of(edits), rev, token, parted)
+        return self._make(list(edits), rev, token, parted)
 
     def read(self) -> Call[Reading]:
         [answer] = yield [{"op": "text", "doc": self.number}]
@@ -90,20 +102,20 @@ class Calls:
             raise Stale(6, "stale")
         return Changes([step_of(step) for step in answer["changes"]], answer["rev"])
 
-    def anchors(self, at: Iterable[int], side: str, rev: int | None) -> Call[list[str]]:
-        return self._ask_all("anchors", {"side": side}, "at", list(at), rev)
+    def anchors(self, at: Iterable[int], side: str, rev: int | None) -> Call[list[Lasting]]:
+        return (yield from self._ask_all("anchors", {"side": side}, "at", list(at), rev))[0]
 
-    def anchor(self, at: int, side: str, rev: int | None) -> Call[str]:
+    def anchor(self, at: int, side: str, rev: int | None) -> Call[Lasting]:
         return (yield from self.anchors([at], side, rev))[0]
 
     def places(self, anchors: Iterable[str], rev: int | None) -> Call[list[int | None]]:
-        return self._ask_all("places", {}, "anchors", list(anchors), rev)
+        return (yield from self._ask_all("places", {}, "anchors", list(anchors), rev))[0]
 
     def place(self, anchor: str, rev: int | None) -> Call[int | None]:
         return (yield from self.places([anchor], rev))[0]
 
-    def _ask_all(self, op: str, fields: Request, name: str, values: list[Any], rev: int | None) -> Call[list[Any]]:
-        """What is answered for all of these values, by requests for some of them each: at this `rev`, or else at any one."""
+    def _ask_all(self, op: str, fields: Request, name: str, values: list[Any], rev: int | None) -> Call[tuple[list[Any], int]]:
+        """What is answered for all of these values, by requests for some of them each, and the `rev`: this one, or else any one."""
         parts = [values[first : first + MOST] for first in range(0, len(values), MOST)]
         for _ in range(ROUNDS if rev is None else 1):
             parted = self.session.parted
@@ -114,48 +126,95 @@ class Calls:
             # After a lost connection the same number can name another text.
             is_one = parted == self.session.parted and len(revs) <= 1
             if is_one and (rev is None or revs <= {rev}):
-                return [value for answer in answers for value in answer[op]]
+                return [value for answer in answers for value in answer[op]], max(revs, default=0)
         raise Stale(6, "stale")
 
-    def _edit_all(self, edits: Iterator[Request], rev: int | None, token: UUID | None) -> Call[int]:
-        """Makes edits one after the other, and gives the last answer."""
-        last = yield from self._edit(next(edits), rev, token)
-        for number, fields in enumerate(edits, 1):
-            last = yield from self._edit_next(fields, last, _token_after(token, number * LONGEST))
-        return last
-
-    def _make(self, pieces: Iterable[Piece], rev: int | None, token: UUID | None, parted: bool) -> Call[int]:
+    def _make(self, edits: Sequence[Fields], rev: int | None, token: UUID | None, parted: bool) -> Call[int]:
         """Makes edits at once, or line by line, and gives the last answer."""
-        last: int | None = None
-        made = 0
-        for line in lines_of(pieces, parted):
-            fields = {"op": "edits", "edits": [piece.edit for piece in line]}
-            try:
-                if last is None:
-                    last = yield from self._edit(fields, rev, token)
-                else:
-                    last = yield from self._edit_next(fields, last, _token_after(token, made))
-            except Refused as refused:
-                refused.at = None if refused.at is None else line[refused.at].number
-                raise
-            made += len(line)
-        if last is None:
+        if not edits:
             raise ValueError("no edits are no request")
+        names = list(dict.fromkeys(name for edit in edits for name in lasting_of(edit).values()))
+        if not names:
+            return self._edit_all(_parts(lines_of(pieces_of(edits), parted)), rev, token)
+        lines = list(lines_of(pieces_of(edits), parted))
+        if len(lines) == 1 and not any(needs_number(piece.edit) for piece in lines[0]):
+            return self._edit_all(_parts(iter(lines)), rev, token)
+        # What doesn't fit one line and may not be parted is refused before anything is asked.
+        list(lines_of(by_numbers(edits, dict.fromkeys(names, 0)), parted))
+        return self._edit_there(edits, names, rev, token, parted)
+
+    def _edit_there(self, edits: Sequence[Fields], names: list[str], rev: int | None, token: UUID | None, parted: bool) -> Call[int]:
+        """Makes edits at places that last by numbers, in just the text in which these were asked for. If that has moved on, it asks again."""
+        # A line whose answer is lost may be made later on. So it has one token, however often it is sent.
+        once = token or uuid4()
+        parted_before = self.session.parted
+        if rev is not None and not self.session.knows_rev(self.number):
+            raise Stale(6, "stale")
+        for left in range(ROUNDS if rev is None else 1, 0, -1):
+            found, read = yield from self._ask_all("places", {}, "anchors", names, None)
+            numbers = {name: BEYOND if number is None else number for name, number in zip(names, found)}
+            parts = _parts(lines_of(by_numbers(edits, numbers), parted))
+            # In another text than the one that was named they are other numbers: there it is answered only if it was made before.
+            is_named = rev is None or (rev == read and parted_before == self.session.parted)
+            try:
+                last = yield from self._edit_part(next(parts), read if is_named else NEVER, once)
+            except Stale:
+                if left == 1:
+                    raise
+            else:
+                break
+        # One that was made before is behind what was asked for, and so its places were others: so it is with the lines after it.
+        return (yield from self._edit_rest(parts, last, token, was_made=last <= read))
+
+    def _edit_all(self, parts: Iterator[Part], rev: int | None, token: UUID | None) -> Call[int]:
+        """Makes parts of a call one after the other, and gives the last answer."""
+        last = yield from self._edit_part(next(parts), rev, token)
+        return (yield from self._edit_rest(parts, last, token))
+
+    def _edit_rest(self, parts: Iterator[Part], last: int, token: UUID | None, was_made: bool = False) -> Call[int]:
+        """Makes the parts that are left, each after the one before it was answered."""
+        for part in parts:
+            if was_made:
+                last = yield from self._edit_part(part, NEVER, _token_after(token, part.made))
+            else:
+                last = yield from self._edit_next(part, last, _token_after(token, part.made))
         return last
 
-    def _edit_next(self, fields: Request, rev: int, token: UUID | None) -> Call[int]:
-        """Makes an edit after one that was answered with this `rev`. If it is `Stale` for a lost connection alone, it is sent anew."""
+    def _edit_next(self, part: Part, rev: int, token: UUID | None) -> Call[int]:
+        """Makes a part after one that was answered with this `rev`. If it is `Stale` for a lost connection alone, it is sent anew."""
         while True:
             try:
-                return (yield from self._edit(fields, rev, token))
+                return (yield from self._edit_part(part, rev, token))
             except Stale:
                 if (yield from self.rev()) != rev:
                     raise
+
+    def _edit_part(self, part: Part, rev: int | None, token: UUID | None) -> Call[int]:
+        """Makes a part of a call. A refusal tells which edit of the caller's it is about."""
+        try:
+            return (yield from self._edit(part.fields, rev, token))
+        except Refused as refused:
+            refused.at = None if refused.at is None else part.numbers[refused.at]
+            raise
 
     def _edit(self, fields: Request, rev: int | None, token: UUID | None) -> Call[int]:
         given = {"rev": rev, "token": token and str(token)}
         [answer] = yield [{"doc": self.number, **fields, **{name: value for name, value in given.items() if value is not None}}]
         return int(answer["rev"])
+
+
+def _stretches(edit: Fields) -> Iterator[Part]:
+    """The edits that take a stretch away."""
+    for number, fields in enumerate(cut(edit)):
+        yield Part(fields, number * LONGEST, [None])
+
+
+def _parts(lines: Iterable[list[Piece]]) -> Iterator[Part]:
+    """The lines that make edits at once."""
+    made = 0
+    for line in lines:
+        yield Part({"op": "edits", "edits": [piece.edit for piece in line]}, made, [piece.number for piece in line])
+        made += len(line)
 
 
 def _token_after(token: UUID | None, made: int) -> UUID | None:

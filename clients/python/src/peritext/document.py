@@ -5,7 +5,7 @@ from __future__ import annotations
 from typing import TYPE_CHECKING, Any, Iterable
 from uuid import UUID
 
-from .action import Action, Fields
+from .action import Action, Fields, Lasting, Place
 from .calls import Calls, Reading
 from .changing import Changes
 from .marks import Mark, Span
@@ -23,6 +23,9 @@ __all__ = ["Document", "Reading"]
 class Document:
     """A document, by its number. Places are counted in characters, from 0; an edit may name the `rev` that it was made for.
 
+    In place of a number an edit may be given the name of a place that lasts, as `anchor` tells it: then it is made where that is by then, whatever
+    others did meanwhile, and needs no `rev`.
+
     Each edit answers the document's new `rev` once it is settled on the disk: it then outlives a power cut. An edit with a `token` is made
     once, however often it is sent, and answered as at first: also by another session of the same file, and after a crash. A session of a daemon
     draws one where none is given.
@@ -30,6 +33,8 @@ class Document:
     An `insert` of more than 256 characters is made at once too, as far as one line takes it, which are 64 KiB. A longer one goes as several lines,
     each of which is answered before the next one is sent, and a `delete` of more than 256 characters as several edits. If another session edits the
     document in between, the next one is `Stale`, and those before it are made. The tokens of all but the first follow from the one that is given.
+    At a place that lasts some of these are made by numbers, in just the text in which the place was asked for: where it takes several lines, and where
+    a long text comes just after a character. If others edit meanwhile it is asked for again, up to eight times, and then `Stale`.
     """
 
     def __init__(self, session: Session, number: int) -> None:
@@ -37,19 +42,27 @@ class Document:
         self.number = number
         self._calls = Calls(session, number)
 
-    def insert(self, at: int, text: str, rev: int | None = None, token: UUID | None = None) -> int:
-        """Puts characters before the one at a place, or at the end."""
+    def insert(self, at: Place, text: str, rev: int | None = None, token: UUID | None = None) -> int:
+        """Puts characters before the one at a place, or at the end.
+
+        >>> _ = document.insert(0, "fox")
+        >>> caret = document.anchor(0, "next")
+        >>> _ = document.insert("start", "> ")
+        >>> _ = document.insert(caret, "red ")
+        >>> document.text()[:9]
+        '> red fox'
+        """
         return run(self.session, self._calls.insert(at, text, rev, token))
 
-    def delete(self, at: int, count: int, rev: int | None = None, token: UUID | None = None) -> int:
+    def delete(self, at: Place, count: int, rev: int | None = None, token: UUID | None = None) -> int:
         """Takes characters away from a place on."""
         return run(self.session, self._calls.delete(at, count, rev, token))
 
-    def mark(self, start: int, end: int, mark: Mark, rev: int | None = None, token: UUID | None = None) -> int:
+    def mark(self, start: Place, end: Place, mark: Mark, rev: int | None = None, token: UUID | None = None) -> int:
         """Marks the characters from a place up to another, that one not included."""
         return run(self.session, self._calls.mark(start, end, mark, rev, token))
 
-    def unmark(self, start: int, end: int, mark: Mark, rev: int | None = None, token: UUID | None = None) -> int:
+    def unmark(self, start: Place, end: Place, mark: Mark, rev: int | None = None, token: UUID | None = None) -> int:
         """Takes a mark away from the characters from a place up to another, that one not included."""
         return run(self.session, self._calls.unmark(start, end, mark, rev, token))
 
@@ -122,7 +135,7 @@ class Document:
         """
         return self.session.follow(self.number)
 
-    def anchor(self, at: int, side: str = "previous", rev: int | None = None) -> str:
+    def anchor(self, at: int, side: str = "previous", rev: int | None = None) -> Lasting:
         """A name for a place between characters, which lasts: it stays with the character before it (`previous`, so that what is typed there
         comes after it) or with the one after it (`next`), at every peer and in every session. `places` tells where it is by then. With the
         `rev` of a text that was read it is of just this text, or `Stale`.
@@ -135,7 +148,7 @@ class Document:
         """
         return run(self.session, self._calls.anchor(at, side, rev))
 
-    def anchors(self, at: Iterable[int], side: str = "previous", rev: int | None = None) -> list[str]:
+    def anchors(self, at: Iterable[int], side: str = "previous", rev: int | None = None) -> list[Lasting]:
         """Such names for any number of places. More than 256 go as several requests, which may be answered at different moments: unless all of
         them are answered at one `rev`, they are sent anew, and are `Stale` after eight times."""
         return run(self.session, self._calls.anchors(at, side, rev))

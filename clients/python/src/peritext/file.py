@@ -53,7 +53,7 @@ def started(program: Path, *words: Path) -> subprocess.Popen[bytes]:
     try:
         return subprocess.Popen([program, *words], stdin=subprocess.PIPE, stdout=subprocess.PIPE, stderr=subprocess.PIPE)
     except FileNotFoundError:
-        raise FileNotFoundError(errno.ENOENT, "no such program; build it with `make peritext`, and name it by program=", program) from None
+        raise FileNotFoundError(errno.ENOENT, "no such program; build it with `make peritext`, and put it on the path or name it by program=", program) from None
 
 
 def check(status: int, said: str) -> None:

@@ -4,7 +4,7 @@ from __future__ import annotations
 
 from typing import Any, Mapping
 
-from .rules import broken, is_long
+from .rules import broken, is_long, is_placed
 
 _LINE = "the line is no request of docs/PROTOCOL.md; mend what made it"
 _BYTES = "the file isn't what this program wrote; keep a copy, and go on from a peer with a new replica"
@@ -42,6 +42,7 @@ _FULL = "the file has all the operations, records, documents or replicas that it
 _LONG = "at most 256 characters in one edit; send it in parts"
 _MUCH = "what one action takes away waits together for the disk, 2,048 characters in any file: make several, or let it be parted; else " + _FULL
 _TOKEN = "an older program knows no `token`; start one that is as new as this client"
+_PLACE = "an older program takes no places that last in edits; start one that is as new as this client"
 # The requests that an older program doesn't know.
 _LATER = ("watch", "changes", "anchors", "places", "edits")
 
@@ -55,7 +56,7 @@ def sentence(number: int, request: Mapping[str, Any] | None) -> str | None:
     if number == 3 and request is not None and request.get("op") in _LATER:
         return _of_fields(request, f"an older program knows no `{request['op']}`; start one that is as new as this client")
     if number == 4 and request is not None:
-        return _of_fields(request, _TOKEN if "token" in request else ADVICE[4])
+        return _of_fields(request, _PLACE if is_placed(request) else _TOKEN if "token" in request else ADVICE[4])
     if number == 7 and request is not None:
         return _of_limit(request)
     return ADVICE.get(number)

@@ -41,13 +41,15 @@ OPTIONAL = {
 # The requests that may be made by one of `edits`, and the fields that stand beside the list.
 ONE = ("insert", "delete", "mark", "unmark")
 ALL = ("doc", "rev", "token")
+# The fields of an edit that are places of the text.
+PLACES = ("at", "from", "to")
 # What each field has to be, of any request, or of one in particular.
 RULES = {
     "doc": "a whole number from 1 to 4294967295",
     "count": "a whole number from 1 to 4294967295",
-    "at": "a whole number from 0 to 4294967295",
-    "from": "a whole number from 0 to 4294967295",
-    "to": "a whole number from 0 to 4294967295",
+    "at": "a whole number from 0 to 4294967295, or a place that lasts",
+    "from": "a whole number from 0 to 4294967295, or a place that lasts",
+    "to": "a whole number from 0 to 4294967295, or a place that lasts",
     "rev": "a whole number from 0 to 4294967295",
     "since": "a whole number from 0 to 4294967295",
     "text": "a text of at least one character",
@@ -104,6 +106,27 @@ def is_whole(value: Any, least: int) -> bool:
     return type(value) is int and least <= value < 2**32
 
 
+def is_lasting(value: Any) -> bool:
+    """Whether it is the text of a place that lasts."""
+    beside = _BESIDE_CHARACTER.fullmatch(value) if isinstance(value, str) else None
+    return value in ("start", "end") if beside is None else int(beside[1]) < 2**48 and _is_token(beside[2])
+
+
+def lasting_of(edit: Mapping[str, Any]) -> dict[str, str]:
+    """The places that last which an edit names in place of numbers, by its fields.
+
+    >>> lasting_of({"op": "mark", "doc": 1, "from": "start", "to": 7, "kind": "em"})
+    {'from': 'start'}
+    """
+    return {name: edit[name] for name in PLACES if is_lasting(edit.get(name))}
+
+
+def is_placed(request: Mapping[str, Any]) -> bool:
+    """Whether an edit, or one of several, is at a place that lasts."""
+    edits: Any = request.get("edits")
+    return any(map(is_placed, edits)) if _is_some(edits, MANY, _is_edit) else bool(lasting_of(request))
+
+
 def _of_one(edits: Any) -> list[str]:
     """Which rules the first of several edits breaks that breaks any."""
     faults = (broken({**edit, "doc": 1}) for edit in edits) if _is_some(edits, MANY, _is_edit) else iter(())
@@ -144,11 +167,6 @@ def _is_token(value: Any) -> bool:
     return _is_uuid(value) and _NIL.fullmatch(value.removeprefix("urn:uuid:")) is None
 
 
-def _is_lasting(value: Any) -> bool:
-    beside = _BESIDE_CHARACTER.fullmatch(value) if isinstance(value, str) else None
-    return value in ("start", "end") if beside is None else int(beside[1]) < 2**48 and _is_token(beside[2])
-
-
 def _is_edit(value: Any) -> bool:
     return isinstance(value, Mapping) and value.get("op") in ONE and not any(name in value for name in ALL)
 
@@ -164,9 +182,9 @@ def _from(least: int) -> Callable[[Any], bool]:
 _HOLDS: dict[str, Callable[[Any], bool]] = {
     "doc": _from(1),
     "count": _from(1),
-    "at": _from(0),
-    "from": _from(0),
-    "to": _from(0),
+    "at": lambda value: is_whole(value, 0) or is_lasting(value),
+    "from": lambda value: is_whole(value, 0) or is_lasting(value),
+    "to": lambda value: is_whole(value, 0) or is_lasting(value),
     "rev": _from(0),
     "since": _from(0),
     "text": _is_text,
@@ -176,6 +194,6 @@ _HOLDS: dict[str, Callable[[Any], bool]] = {
     "token": _is_token,
     "anchors at": lambda value: _is_some(value, MOST, _from(0)),
     "side": lambda value: value in ("previous", "next"),
-    "anchors": lambda value: _is_some(value, MOST, _is_lasting),
+    "anchors": lambda value: _is_some(value, MOST, is_lasting),
     "edits": lambda value: _is_some(value, MANY, _is_edit),
 }

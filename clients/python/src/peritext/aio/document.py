@@ -6,7 +6,7 @@ from types import TracebackType
 from typing import Iterable
 from uuid import UUID
 
-from ..action import Collected, Fields
+from ..action import Collected, Fields, Lasting, Place
 from ..calls import Calls, Reading
 from ..changing import Changes
 from ..marks import Mark, Span
@@ -15,7 +15,8 @@ from .running import Runner
 
 
 class Document:
-    """A document, by its number. Places are counted in characters, from 0; an edit may name the `rev` that it was made for.
+    """A document, by its number. Places are counted in characters, from 0, or are places that last, as `anchor` names them; an edit may name the `rev`
+    that it was made for.
 
     Each edit answers the document's new `rev` once it is settled on the disk: it then outlives a power cut. An edit with a `token` is made once,
     however often it is sent. Long inserts and deletes go as those of `peritext.Document` do. Calls of several tasks are made in the order in which
@@ -27,19 +28,19 @@ class Document:
         self._runner = runner
         self._calls = Calls(runner.session, number)
 
-    async def insert(self, at: int, text: str, rev: int | None = None, token: UUID | None = None) -> int:
+    async def insert(self, at: Place, text: str, rev: int | None = None, token: UUID | None = None) -> int:
         """Puts characters before the one at a place, or at the end."""
         return await self._runner.run(self._calls.insert(at, text, rev, token))
 
-    async def delete(self, at: int, count: int, rev: int | None = None, token: UUID | None = None) -> int:
+    async def delete(self, at: Place, count: int, rev: int | None = None, token: UUID | None = None) -> int:
         """Takes characters away from a place on."""
         return await self._runner.run(self._calls.delete(at, count, rev, token))
 
-    async def mark(self, start: int, end: int, mark: Mark, rev: int | None = None, token: UUID | None = None) -> int:
+    async def mark(self, start: Place, end: Place, mark: Mark, rev: int | None = None, token: UUID | None = None) -> int:
         """Marks the characters from a place up to another, that one not included."""
         return await self._runner.run(self._calls.mark(start, end, mark, rev, token))
 
-    async def unmark(self, start: int, end: int, mark: Mark, rev: int | None = None, token: UUID | None = None) -> int:
+    async def unmark(self, start: Place, end: Place, mark: Mark, rev: int | None = None, token: UUID | None = None) -> int:
         """Takes a mark away from the characters from a place up to another, that one not included."""
         return await self._runner.run(self._calls.unmark(start, end, mark, rev, token))
 
@@ -86,12 +87,12 @@ class Document:
         """
         return Follow(self._runner.session, self.number)
 
-    async def anchor(self, at: int, side: str = "previous", rev: int | None = None) -> str:
+    async def anchor(self, at: int, side: str = "previous", rev: int | None = None) -> Lasting:
         """A name for a place between characters, which lasts: it stays with the character before it (`previous`, so that what is typed there comes
         after it) or with the one after it (`next`). With the `rev` of a text that was read it is of just this text, or `Stale`."""
         return await self._runner.run(self._calls.anchor(at, side, rev))
 
-    async def anchors(self, at: Iterable[int], side: str = "previous", rev: int | None = None) -> list[str]:
+    async def anchors(self, at: Iterable[int], side: str = "previous", rev: int | None = None) -> list[Lasting]:
         """Such names for any number of places."""
         return await self._runner.run(self._calls.anchors(at, side, rev))
 

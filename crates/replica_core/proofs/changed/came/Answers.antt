@@ -1,5 +1,5 @@
 use Rattle.std.proofs.Common.{◌-◌, ◌≤◌, ◌<◌, ◌∙◌, length, sym, arith}
-use Rattle.replica_core.proofs.CameLemmas.{back_none, back_own, back_past, of_head}
+use Rattle.replica_core.proofs.CameLemmas.{back_known, back_none, back_own, back_past, of_head}
 use Rattle.replica_core.proofs.changed.came.Goals as goal
 
 pub back-init : goal.back-init
@@ -46,3 +46,9 @@ pub back-preserved : goal.back-preserved
 back-preserved c =
     back_past c.back.came c.args.list.now c.args.doc c.args.count c.back.left c.back.next (c.back.next - 1) c.head.result c.back.invariant
     (let known = c.if-next-repeats.false in omega arith) c.head.ensures c.if-head-doc.false
+
+-- what is left came before the notes begin
+pub returns-then-next-repeats-clause-known : goal.returns-then-next-repeats-clause-known
+returns-then-next-repeats-clause-known c = λ late.
+    absurd (back_known c.back.came c.args.list.now c.args.doc c.args.count c.back.left c.back.next c.args.repeats.now.from c.back-test.true c.back.invariant
+    c.if-next-repeats.true late)

@@ -7,4 +7,4 @@ use Rattle.session_lines.proofs.edits.each_listed.Given as goal
 -- those that are read, and what is left, are all
 abbrev pub invariant-loop-item : goal.invariant-loop-item
 invariant-loop-item l =
-    behind l.changes.items (listed_changes (items_view (drop l.item-index l.items))) ≡ listed_changes (items_view l.items)
+    behind l.changes.items l.places.items (listed_changes (items_view (drop l.item-index l.items))) ≡ listed_changes (items_view l.items)

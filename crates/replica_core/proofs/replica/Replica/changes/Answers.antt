@@ -1,5 +1,5 @@
 use native.Mathlib.Omega.{arith}
-use Rattle.std.proofs.Common.{◌≡◌, ◌≤◌, ◌∙◌, refl, ap, map, subst, sym}
+use Rattle.std.proofs.Common.{◌≡◌, ◌≤◌, ◌∙◌, refl, ap, map, subst, sym, take}
 use Rattle.op_model.specs.Changes.{changes}
 use Rattle.op_model.specs.Text.{rev}
 use Rattle.op_model.specs.Causality.{IsCausallyClosed}
@@ -26,7 +26,7 @@ returns-then-since-eq0 c =
             ∙ put_since_none c.args.self.now.list before more c.args.doc closed all (is ∙ c.if-since-eq0.true));
       };
       first = λ is. refl;
-      now = λ is. refl;
+      later = λ opened now. refl;
     }
 
 pub returns-in-Some : goal.returns-in-Some
@@ -49,7 +49,7 @@ returns-in-Some c =
             ∙ ap (λ ops. changes before ops c.args.doc) same;
       };
       first = λ is. refl;
-      now = λ is. refl;
+      later = λ opened now. refl;
     }
 
 pub returns-then-since-rev : goal.returns-then-since-rev
@@ -61,7 +61,7 @@ returns-then-since-rev c =
     record {
       changes = tt;
       first = λ is. absurd (omega (arith, is, c.if-since-rev.true));
-      now = λ is. absurd (omega (arith, counted, is, c.if-since-rev.true));
+      later = λ opened now. absurd (omega (arith, counted, now, c.if-since-rev.true));
     }
 
 pub returns : goal.returns
@@ -70,9 +70,15 @@ returns c =
     let same : c.as_slice-list.result ≡ c.args.self.now.list = c.as_slice-list.ensures ∙ list in
     let number = c.find-document.ensures.number ∙ c.new-empty.ensures.number in
     let counted = c.count-rev.ensures ∙ (ap (λ n. rev c.as_slice-list.result n) number ∙ ap (λ ops. rev ops c.args.doc) same) in
-    let none = rw c.in-None.is at c.in_ok-came.ensures.none in
+    let known = rw c.in-None.is at c.in_ok-came.ensures.known in
+    let opened : c.self.inside.opened ≡ c.args.self.now.opened = ap (λ (h : ReplicaHeld). h.opened) c.self.view_is in
     record {
       changes = tt;
       first = λ is. absurd (c.if-since-eq0.false is);
-      now = λ is. none (omega (arith, counted, is));
+      later = λ from now. known (
+          let front = ap (λ n. rev (take n c.as_slice-list.result) c.args.doc) (c.self.invariant.noted_from ∙ opened)
+          ∙ ap (λ ops. rev (take c.args.self.now.opened ops) c.args.doc) same in
+          let whole = ap (λ ops. rev ops c.args.doc) same in
+          omega arith
+          );
     }

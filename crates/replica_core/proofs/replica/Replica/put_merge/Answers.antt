@@ -40,8 +40,8 @@ invariant_of-self-2 c =
     rw c.push.ensures
     (AreFields-merge c.self.inside.id c.self.inside.opened c.self.inside.settled c.self.inside.acked c.self.inside.told c.args.peer c.len-index.result
     c.self.inside.steps c.self.inside.log c.append.new.self c.in_ok-made.made c.args.op c.self.inside.clock c.advance.new.clock c.self.inside.tokens
-    c.self.inside.repeats c.put.new.self c.self.invariant can counts c.in-Ok.ensures.ok c.in_ok-made.ensures at
-    (c.put.ensures c.self.inside.log.list c.args.op c.self.invariant.repeats (sym at) again))
+    c.self.inside.repeats c.note.new.self c.self.invariant can counts c.in-Ok.ensures.ok c.in_ok-made.ensures at
+    (c.in_ok-note.ensures.noted c.self.inside.log.list c.args.op c.self.invariant.repeats (sym at) again) c.note.ensures.from)
 
 pub unreachable-requires : goal.unreachable-requires
 unreachable-requires c =
@@ -55,9 +55,22 @@ push-requires c =
     let places = can.places in
     omega arith
 
-pub put-requires : goal.put-requires
-put-requires c =
+-- the note is taken back with the operation
+pub invariant_of-self-in-Err-Memory : goal.invariant_of-self-in-Err-Memory
+invariant_of-self-in-Err-Memory c =
     let can = rw (← c.self.view_is) at c.requires in
     let at : c.len-index.result ≡ length c.self.inside.log.list = search rules in
-    let few = list_fits c.self.inside.log.list (c.args.op ∷ []) can.joins.follows.limits in
-    omega arith
+    let docs = rw c.deref-2.ensures.value at c.at.ensures.stands in
+    let again = c.removes_again-is_repeat.ensures c.self.inside.log.list (docs c.self.inside.log.list c.self.invariant.docs)
+    (c.at.ensures.number ∙ c.new-empty.ensures.number) can.joins.follows in
+    let noted = c.in_ok-note.ensures.noted c.self.inside.log.list c.args.op c.self.invariant.repeats (sym at) again in
+    let same = c.in-Err-Memory.ensures.err in
+    rw (same.list, same.docs) (record {
+      sound = c.self.invariant.sound;
+      clock = c.self.invariant.clock;
+      docs = c.self.invariant.docs;
+      index = same.index c.self.inside.log.list c.self.invariant.index;
+      tokens = c.self.invariant.tokens;
+      repeats = c.forget.ensures.forgotten c.self.inside.log.list c.args.op noted (sym at);
+      noted_from = c.forget.ensures.from ∙ (c.note.ensures.from ∙ c.self.invariant.noted_from);
+    })
