@@ -53,6 +53,7 @@ run("beside", noEditor);
 run("histories", noEditor);
 run("quill_binding");
 run("quill_histories");
+run("late_line");
 run("codemirror_binding");
 run("codemirror_histories");
 run("editors", noProgram ?? noEditor);
