@@ -1,7 +1,7 @@
 -- The records of changes are put one after another.
 use Rattle.std.proofs.Common.{◌≡◌, ℕ, ◌+◌, ◌≤◌, List, [], ◌∷◌, ◌++◌, length, drop, take}
 use Rattle.std.proofs.Common.{true, refl, sym, ap, subst, ◌∙◌, arith, length-append, append_assoc, append-nil, Option, None}
-use Rattle.std.proofs.lemmas.List.{drop_at, take_at, take-append-drop}
+use Rattle.std.proofs.lemmas.List.{drop_at, take-append-drop}
 use Rattle.group_commit.specs.Plan.{newest}
 use Rattle.model_laws.proofs.LimitsMade.{due_asks_right}
 use Rattle.model_laws.proofs.OneChange.{closed-due, length-due}

@@ -5,3 +5,4 @@ pub mod Fitting
 pub mod Meeting
 pub mod Opening
 pub mod Refusal
+pub mod Asked

@@ -15,7 +15,7 @@ fn without_a_file_a_new_store_is_edited(rt: HostRuntime) -> Result<(), Fail> {
     Ok(())
 }
 
-static SESSIONS: [Session; 6] = [
+static SESSIONS: [Session; 7] = [
     (
         "a fresh store is empty",
         "{\"op\":\"text\",\"doc\":9}\n{\"op\":\"status\"}\n",
@@ -30,6 +30,11 @@ static SESSIONS: [Session; 6] = [
         "what changed and places are told",
         "{\"op\":\"insert\",\"doc\":1,\"at\":0,\"text\":\"abc\"}\n{\"op\":\"changes\",\"doc\":1,\"since\":3}\n{\"op\":\"delete\",\"doc\":1,\"at\":1,\"count\":1}\n{\"op\":\"changes\",\"doc\":1,\"since\":3}\n{\"op\":\"changes\",\"doc\":1,\"since\":0}\n{\"op\":\"changes\",\"doc\":1,\"since\":5}\n{\"op\":\"anchors\",\"doc\":1,\"at\":[0],\"side\":\"previous\"}\n{\"op\":\"places\",\"doc\":1,\"anchors\":[\"start\",\"end\"]}\n{\"op\":\"anchors\",\"doc\":1,\"at\":[3],\"side\":\"next\"}\n",
         "{\"ok\":true,\"rev\":3}\n{\"changes\":[],\"ok\":true,\"rev\":3}\n{\"ok\":true,\"rev\":4}\n{\"changes\":[{\"retain\":1},{\"delete\":1}],\"ok\":true,\"rev\":4}\n{\"changes\":[{\"insert\":\"ac\"}],\"ok\":true,\"rev\":4}\n{\"code\":6,\"error\":\"stale\",\"ok\":false}\n{\"anchors\":[\"start\"],\"ok\":true,\"rev\":4}\n{\"ok\":true,\"places\":[0,2],\"rev\":4}\n{\"code\":5,\"error\":\"range\",\"ok\":false}\n",
+    ),
+    (
+        "edits at places that last are made, or refused",
+        "{\"op\":\"insert\",\"doc\":1,\"at\":\"end\",\"text\":\"ab\"}\n{\"op\":\"edits\",\"doc\":1,\"edits\":[{\"op\":\"insert\",\"at\":\"start\",\"text\":\"x\"},{\"op\":\"mark\",\"from\":\"start\",\"to\":\"end\",\"kind\":\"em\"}]}\n{\"op\":\"spans\",\"doc\":1}\n{\"op\":\"insert\",\"doc\":1,\"at\":\"b9@00000000-0000-0000-0000-000000000001\",\"text\":\"y\"}\n",
+        "{\"ok\":true,\"rev\":2}\n{\"ok\":true,\"rev\":4}\n{\"ok\":true,\"rev\":4,\"spans\":[{\"em\":true,\"text\":\"xab\"}]}\n{\"code\":5,\"error\":\"range\",\"ok\":false}\n",
     ),
     (
         "an edit is refused by its first cause",

@@ -5,7 +5,7 @@ use Rattle.op_model.specs.Actions.{Asked}
 use Rattle.op_model.specs.Machine.{Event, Answer as Reply, edit, ack, ticket, acknowledged, refused}
 use Rattle.locked_replica.specs.Hub.{Parts}
 use Rattle.locked_replica.specs.Run.{Calls}
-use Rattle.placed_edits.specs.Placed.{asked_at}
+use Rattle.hub_parts.specs.Asked.{asked_now}
 use Rattle.session_lines.specs.Saying.{number_of}
 use Rattle.session_lines.specs.declared.command.Command.{Command}
 use Rattle.session_lines.specs.declared.command.Command.TheVariants as command
@@ -50,8 +50,8 @@ module _ {D : Type 0} (facts : Ghosts D) where
 
   command_goes : (old new : HeldDesk D) (c : Command) (answer : Answer) → Serves facts old c answer new → Goes old.hub new.hub
   command_goes old new (command.Edit p) answer (inl it) =
-      let e = asked_at old.hub.replica.list p in edit_goes_unless (comes_too_late old e) old new e answer refl it
-  command_goes old new (command.Edit p) answer (inr (placed, said, same)) = stays old new same
+      let e = asked_now old.hub.replica p in edit_goes_unless (comes_too_late old e) old new e answer refl it
+  command_goes old new (command.Edit p) answer (inr (looked_up, in_time, said, same)) = stays old new same
   command_goes old new (command.Text doc) answer (said, same) = stays old new same
   command_goes old new (command.Spans doc) answer (said, same) = stays old new same
   command_goes old new (command.Changes doc since) answer (said, same) = stays old new same

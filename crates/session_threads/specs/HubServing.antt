@@ -11,9 +11,10 @@ use Rattle.op_model.specs.Held.{ReplicaHeld}
 use Rattle.op_model.specs.Text.{text, rev}
 use Rattle.op_model.specs.Spans.{spans}
 use Rattle.op_model.specs.Machine.{Event, Answer as Reply, Ticket, edit, ack, ticket, acknowledged, refused, known_ticket}
+use Rattle.hub_parts.specs.Asked.{asked_now, looks_up}
 use Rattle.hub_parts.specs.declared.meeting.TheConstants.{BEGIN_TRIES}
 use Rattle.locked_replica.specs.Hub.{Parts, state_of}
-use Rattle.placed_edits.specs.Placed.{are_placed, asked_at, Placed}
+use Rattle.placed_edits.specs.Placed.{Placed}
 use Rattle.replica_core.specs.Changed.{AreChangesSince}
 use Rattle.replica_core.specs.Places.{anchors_of, are_within, places_of}
 use Rattle.replica_core.specs.RefusedAt.{place_told}
@@ -148,11 +149,12 @@ module _ {D : Type 0} (facts : Ghosts D) where
     | false ↦ AnswersEdit old.session old.hub e answer new.hub × (new ≡ record old { hub = new.hub })
   ]
 
-  -- An edit at places that last is the action that they give by the hub's list. Or there was no memory for it, and nothing changes.
+  -- An edit at places that last is made as the numbers that they have in the hub's list. Or there was no memory for these numbers, and nothing
+  -- changes: never if the edit comes too late, or was made before.
   abbrev pub ServesPlaced : HeldDesk D → Placed → Answer → HeldDesk D → Type 0
   ServesPlaced old p answer new =
-      ServesEdit old (asked_at old.hub.replica.list p) answer new
-      ⊎ ((are_placed p.spots ≡ true) × (answer ≡ Refused Memory) × (new ≡ old))
+      ServesEdit old (asked_now old.hub.replica p) answer new
+      ⊎ ((looks_up old.hub.replica p ≡ true) × (comes_too_late old p.asked ≡ false) × (answer ≡ Refused Memory) × (new ≡ old))
 
   -- a stop is answered where all is settled, or as failed
   abbrev pub answer_to_stop : Bool → Answer

@@ -41,12 +41,17 @@ impl<D: Disk> Desk for HubDesk<D> {
 }
 
 impl<D: Disk> HubDesk<D> {
-    /// Makes an edit at places that last, or by numbers.
+    /// Makes an edit at places that last, or by numbers. Places are looked up only for an edit that
+    /// neither comes too late nor was made before.
     fn edit_placed(&mut self, alloc: Global, placed: &PlacedAction) -> Answer
         ensures { ServesPlaced D.DiskFacts self.old placed.now result self.new }
     {
-        if !placed.is_placed() {
-            return self.edit(placed.action());
+        let edit = placed.action();
+        if self.comes_too_late(edit) {
+            return Answer::Refused(Refusal::Stopping);
+        }
+        if !placed.is_placed() || self.hub.known(edit).is_some() {
+            return self.edit(edit);
         }
         match self.hub.asked(alloc, placed) {
             Ok(edit) => self.edit(&edit),

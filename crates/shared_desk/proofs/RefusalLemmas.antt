@@ -8,8 +8,8 @@ use Rattle.placed_edits.specs.Placed.{Placed}
 use Rattle.session_threads.specs.HubCalls.{is_edit_refusal as is_hub_refusal}
 use Rattle.session_threads.proofs.EditLemmas.{edit_refusals}
 use Rattle.shared_hub.specs.Books.{PassHeld}
-use Rattle.shared_hub.specs.Refusal.{number_of, told_at, IsWithoutMemory}
-use Rattle.shared_hub.specs.Shared.{asked_then, Makes, RefusesAsked}
+use Rattle.shared_hub.specs.Refusal.{number_of, told_at}
+use Rattle.shared_hub.specs.Shared.{asked_then, IsWithoutMemory, Makes, RefusesAsked}
 use Rattle.shared_hub.specs.declared.refusal.SharedRefusal.{SharedRefusal}
 use Rattle.shared_hub.specs.declared.refusal.SharedRefusal.TheVariants as refusal
 use Rattle.shared_desk.specs.Serving.{is_edit_refusal}
@@ -29,13 +29,13 @@ asked_refused r e before after old makes = edit_refusals (state_of before) (stat
 
 -- an edit is refused so
 pub edit_refused : (r : SharedRefusal) (old : PassHeld) (p : Placed)
-    → (r ≢ refusal.Stopping → RefusesAsked (asked_then p) old (number_of r) (told_at r) ⊎ IsWithoutMemory p r) → is_edit_refusal r ≡ true
+    → (r ≢ refusal.Stopping → RefusesAsked (asked_then p) old (number_of r) (told_at r) ⊎ IsWithoutMemory old p r) → is_edit_refusal r ≡ true
 edit_refused refusal.Stopping old p refuses = refl
 edit_refused (refusal.Locked l) old p refuses = elim (refuses (λ same. let never : ⊥ = cc in never)) [
   | inl it ↦ is_true _ (asked_refused (refusal.Locked l) it.asked it.refuses.before it.refuses.after old it.refuses.makes.makes)
-  | inr (placed, is, whole) ↦ by_number (refusal.Locked l) is
+  | inr it ↦ by_number (refusal.Locked l) it.number
 ]
 edit_refused (refusal.Change l at) old p refuses = elim (refuses (λ same. let never : ⊥ = cc in never)) [
   | inl it ↦ is_true _ (asked_refused (refusal.Change l at) it.asked it.refuses.before it.refuses.after old it.refuses.makes.makes)
-  | inr (placed, is, whole) ↦ by_number (refusal.Change l at) is
+  | inr it ↦ by_number (refusal.Change l at) it.number
 ]

@@ -59,7 +59,7 @@ pub record IsRefusedEdit (old : PassHeld) (asks : LockedHeld → Asked) (refusal
   pub cause : refusal ≢ Stopping → RefusesAsked asks old (number_of refusal) place
   pub stopped : refusal ≡ Stopping → MomentOf old (λ l. known_ticket l.replica (asks l) ≡ None)
 
--- an edit is acknowledged; or the hub refused it so; or it is answered as failed: what it asks for is by what stood under the lock
+-- an edit is acknowledged; or the hub refused it so; or it is answered as failed. `asks` gives the action by what stands under the lock
 abbrev pub ServesEdit : PassHeld → (LockedHeld → Asked) → Answer → PassHeld → Type 0
 ServesEdit old asks (Edited rev) new = IsAcknowledged old asks rev new
 ServesEdit old asks (Refused refusal) new =
@@ -75,11 +75,11 @@ ServesEdit old asks (Peers peers sessions) new = ⊥
 ServesEdit old asks Stopped new = ⊥
 ServesEdit old asks Done new = ⊥
 
--- an edit at places that last, or by numbers; or there was no memory for what its places give
+-- an edit at places that last, or by numbers; or there was no memory for the numbers of its places, at some moment at which it wasn't made
 abbrev pub ServesPlaced : PassHeld → Placed → Answer → PassHeld → Type 0
 ServesPlaced old p answer new =
     ServesEdit old (asked_then p) answer new
-    ⊎ ((are_placed p.spots ≡ true) × (answer ≡ Refused Memory) × (new ≡ old))
+    ⊎ ((are_placed p.spots ≡ true) × MomentOf old (λ l. known_ticket l.replica p.asked ≡ None) × (answer ≡ Refused Memory) × (new ≡ old))
 
 -- the text of a document at some moment, at which the pass's entries were the kept steps of its number; or out of memory
 abbrev pub ServesText : PassHeld → ℕ → Answer → PassHeld → Type 0

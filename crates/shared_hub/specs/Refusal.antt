@@ -1,10 +1,9 @@
 -- Why a shared hub refuses a call, and the machine's answers.
-use Rattle.std.specs.Prelude.{◌≡◌, ℕ, true, List, Option, Some, None, Result, Ok, Err}
+use Rattle.std.specs.Prelude.{ℕ, List, Option, Some, None, Result, Ok, Err}
 use Rattle.std.specs.Global.{Vec}
-use Rattle.fixed_numbers.specs.declared.refusals.TheConstants.{MEMORY, STOPPING}
+use Rattle.fixed_numbers.specs.declared.refusals.TheConstants.{STOPPING}
 use Rattle.op_model.specs.declared.op.Op.{Op}
 use Rattle.op_model.specs.Machine.{Ticket, Answer, ticket, operations, clock, refused}
-use Rattle.placed_edits.specs.Placed.{are_placed, Placed}
 use Rattle.replica_core.specs.Merging.{answer_of}
 use Rattle.replica_core.specs.declared.merged.Merged.{Merged}
 use Rattle.hub_parts.specs.Refusal.{number_of as number_of_locked}
@@ -22,10 +21,6 @@ abbrev pub told_at : SharedRefusal → Option ℕ
 told_at (refusal.Locked e) = None
 told_at (refusal.Change e at) = Some at
 told_at refusal.Stopping = None
-
--- there was no memory for what the places of an edit give
-abbrev pub IsWithoutMemory : Placed → SharedRefusal → Type 0
-IsWithoutMemory placed e = (are_placed placed.spots ≡ true) × (number_of e ≡ MEMORY) × (told_at e ≡ None)
 
 -- the machine's answer to an edit
 abbrev pub edited : Result Ticket SharedRefusal → Answer

@@ -1,19 +1,23 @@
 -- What a call of a shared hub says of the moment at which it had the lock.
-use Rattle.std.specs.Prelude.{◌≡◌, ℕ, Option, Result}
+use Rattle.std.specs.Prelude.{◌≡◌, ℕ, true, None, Option, Result}
 use Rattle.disk_trait.specs.declared.facts.DiskFacts.{Ghosts}
+use Rattle.fixed_numbers.specs.declared.refusals.TheConstants.{MEMORY}
 use Rattle.group_commit.specs.declared.error.StoreError.{StoreError}
 use Rattle.op_model.specs.Actions.{Asked}
-use Rattle.op_model.specs.Machine.{Event, Answer, Step, Ticket, edit, ticket, refused}
+use Rattle.op_model.specs.Machine.{Event, Answer, Step, Ticket, edit, known_ticket, ticket, refused}
 use Rattle.hub_parts.specs.Locked.{IsLocked, state_of, LockedHeld}
 use Rattle.hub_parts.specs.Fitting.{FitTogether, side_of}
 use Rattle.hub_parts.specs.Flusher.{FlusherHeld}
 use Rattle.hub_parts.specs.Meeting.{Meets}
 use Rattle.hub_parts.specs.declared.met.Met.{Met}
-use Rattle.placed_edits.specs.Placed.{asked_at, Placed}
+use Rattle.hub_parts.specs.Asked.{asked_now}
+use Rattle.placed_edits.specs.Placed.{are_placed, Placed}
 use Rattle.replica_core.specs.RefusedAt.{place_told}
 use Rattle.shared_hub.specs.Books.{PassHeld, ends_of}
 use Rattle.shared_hub.specs.Going.{Goes}
 use Rattle.shared_hub.specs.Moments.{with_moment}
+use Rattle.shared_hub.specs.Refusal.{number_of, told_at}
+use Rattle.shared_hub.specs.declared.refusal.SharedRefusal.{SharedRefusal}
 
 -- At some moment the locked part was so: its list is causally closed, replaying the kept steps gives list and settled number, and
 -- what is acknowledged and told is settled.
@@ -62,21 +66,28 @@ pub record RefusesEdit (pass : PassHeld) (e : Asked) (n : ℕ) (place : Option �
   pub makes : MakesFor before after pass pass (edit pass.number e) (refused n)
   pub told : place ≡ place_told before.replica e n
 
--- the action that an edit at places that last asks for, where the locked part is so
+-- the action by numbers that an edit asks for, if this stands under the lock
 abbrev pub asked_then : Placed → LockedHeld → Asked
-asked_then placed l = asked_at l.replica.list placed
+asked_then placed l = asked_now l.replica placed
 
--- while the lock was held once, the action that the text of then gave was made and entered, with this ticket
+-- while the lock was held once, `asks` gave an action by what stood there, and just that was made and entered, with this ticket
 pub record EntersAsked (asks : LockedHeld → Asked) (old left new : PassHeld) (t : Ticket) : Type 0 where
   pub asked : Asked
   pub entered : EntersTo old left new (edit old.number asked) (ticket t)
   pub of_then : asked ≡ asks entered.before
 
--- while the lock was held once, the action that the text of then gave was refused
+-- while the lock was held once, the action that `asks` gave by what stood there was refused
 pub record RefusesAsked (asks : LockedHeld → Asked) (pass : PassHeld) (n : ℕ) (place : Option ℕ) : Type 0 where
   pub asked : Asked
   pub refuses : RefusesEdit pass asked n place
   pub of_then : asked ≡ asks refuses.before
+
+-- there was no memory for the numbers of an edit's places; it wasn't made before, under its token
+pub record IsWithoutMemory (pass : PassHeld) (placed : Placed) (e : SharedRefusal) : Type 0 where
+  pub has_places : are_placed placed.spots ≡ true
+  pub new : MomentOf pass (λ l. known_ticket l.replica placed.asked ≡ None)
+  pub number : number_of e ≡ MEMORY
+  pub whole : told_at e ≡ None
 
 -- A meeting of the locked part and the flusher that fits it. Both are sound before and after it and fit together, and the flusher has gone
 -- on.

@@ -1,5 +1,6 @@
 //! What is read under the lock of a shared hub.
 ghost use Rattle.std.specs.Prelude.{◌≡◌, All, IfOk, IfSome, is_some, length};
+ghost use Rattle.op_model.specs.Machine.{known_ticket};
 ghost use Rattle.op_model.specs.Spans.{spans as spans_of};
 ghost use Rattle.op_model.specs.Text.{text as text_of, rev as rev_of};
 ghost use Rattle.placed_edits.specs.Placed.{asked_at};
@@ -46,6 +47,14 @@ impl<J: BookNames> Guarded<J> {
             self.now.locked.replica.replica edit.now }
     {
         self.locked.refused_at(edit)
+    }
+
+    /// Whether an edit was made before, under its token. Takes no memory. Costs what
+    /// `Locked::known` does.
+    pub(crate) fn knows(&self, edit: &Action) -> bool
+        ensures { result ≡ is_some (known_ticket self.now.locked.replica edit.now) }
+    {
+        self.locked.known(edit).is_some()
     }
 
     /// The action by numbers that an edit at places that last asks for. An error is out of memory

@@ -11,6 +11,7 @@ mod committer;
 mod connected;
 mod flushing;
 mod guarded;
+mod guarded_edits;
 mod guarded_meets;
 mod guarded_reads;
 mod guarded_tells;

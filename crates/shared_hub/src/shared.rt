@@ -5,8 +5,8 @@ ghost use Rattle.op_model.specs.Machine.{edit as edit_event, known_ticket, merge
 ghost use Rattle.op_model.specs.Machine.{tell as tell_event, have as have_event};
 ghost use Rattle.op_model.specs.Machine.{ticket, operations, clock as clock_answer};
 ghost use Rattle.shared_hub.specs.Guarded.{after_ticket, Merges};
-ghost use Rattle.shared_hub.specs.Refusal.{merged, number_of, told_at, IsWithoutMemory};
-ghost use Rattle.shared_hub.specs.Shared.{asked_then, EntersAsked, RefusesAsked};
+ghost use Rattle.shared_hub.specs.Refusal.{merged, number_of, told_at};
+ghost use Rattle.shared_hub.specs.Shared.{asked_then, EntersAsked, IsWithoutMemory, RefusesAsked};
 ghost use Rattle.shared_hub.specs.Shared.{EntersTo, HappensTo, MomentOf, MeetsOnce, Moment, RefusesEdit};
 ghost use Rattle.shared_hub.specs.declared.refusal.SharedRefusal.TheVariants.{Stopping};
 ghost use Rattle.op_ids.specs.Clock.{count_of};
@@ -97,10 +97,11 @@ impl<J: BookNames> Shared<J> {
         result
     }
 
-    /// Makes an edit at places that last: under one holding of the lock they are looked up, and
-    /// what they give is made as `edit` makes it, so nothing comes between. Refuses as `edit` does,
-    /// and with 1 if there is no memory for what they give. Costs what `Locked::asked` and `edit`
-    /// do; an edit by numbers alone costs `edit`.
+    /// Makes an edit at places that last: under one holding of the lock they are looked up, and the
+    /// numbers that they have are made as `edit` makes them, so nothing comes between. An edit that
+    /// was made before has its ticket of then. Refuses another one with 12 after `stop`, then with
+    /// 1 if there is no memory for the numbers, then as `edit` does. Costs what `Locked::asked` and
+    /// `edit` do; an edit by numbers alone costs `edit`, and a step for each of its changes.
     pub fn edit_placed<R: Wait>(
         &self,
         rt: &R,
@@ -112,20 +113,13 @@ impl<J: BookNames> Shared<J> {
             (after_ticket t pass.old) pass.new t) }
         ensures same { OnErr result (pass.new ≡ pass.old) }
         ensures stopping { result ≡ Err Stopping → MomentOf pass.old
-            (λ l. known_ticket l.replica (asked_then placed.now l) ≡ None) }
+            (λ l. known_ticket l.replica placed.now.asked ≡ None) }
         ensures refused { IfErr result (λ e. e ≢ Stopping
             → RefusesAsked (asked_then placed.now) pass.old (number_of e) (told_at e)
-            ⊎ IsWithoutMemory placed.now e) }
+            ⊎ IsWithoutMemory pass.old placed.now e) }
     {
         let mut guard = self.guarded.lock(rt);
-        let result = if placed.is_placed() {
-            match guard.asked(alloc, placed) {
-                Ok(edit) => guard.edit(pass, &edit),
-                Err(_) => Err(SharedRefusal::out_of_memory()),
-            }
-        } else {
-            guard.edit(pass, placed.action())
-        };
+        let result = guard.edit_placed(alloc, pass, placed);
         let is_due = guard.wakes_flusher();
         drop(guard);
         self.wake_flusher(is_due);

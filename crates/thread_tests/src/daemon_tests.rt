@@ -71,9 +71,9 @@ const OF_THE_SECOND: [(&str, &str); 9] = [
     (STOP, STOPPED),
 ];
 
-/// A character comes and goes in one line.
+/// A character comes and goes in one line, at a place that lasts.
 const TWO_AT_ONCE: &str =
-    "{\"op\":\"edits\",\"doc\":1,\"edits\":[{\"op\":\"insert\",\"at\":2,\"text\":\"c\"},{\"op\":\"delete\",\"at\":2,\"count\":1}]}";
+    "{\"op\":\"edits\",\"doc\":1,\"edits\":[{\"op\":\"insert\",\"at\":\"end\",\"text\":\"c\"},{\"op\":\"delete\",\"at\":2,\"count\":1}]}";
 
 /// The second edit of a line can't be made, so none is.
 const SECOND_REFUSED: &str =

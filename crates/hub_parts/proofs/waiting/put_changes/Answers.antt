@@ -1,4 +1,4 @@
-use Rattle.std.proofs.Common.{◌≡◌, ◌+◌, ◌∷◌, drop, ap, subst, refl}
+use Rattle.std.proofs.Common.{◌+◌, ◌∷◌, drop, ap, subst, refl}
 use Rattle.std.proofs.lemmas.List.{drop_more}
 use Rattle.op_model.specs.Actions.{edit_of, Asked}
 use Rattle.hub_parts.specs.Adding.{IsPutting}
