@@ -116,6 +116,14 @@ function staysWithNext(place) {
 }
 
 /**
+ * How many operations edits are that were made: one for each character that is put in or taken away, and for each mark.
+ * @param {readonly Edit[]} edits
+ */
+export function operationsOf(edits) {
+  return edits.reduce((sum, edit) => sum + (edit.op === "insert" ? lengthOf(edit.text) : edit.op === "delete" ? edit.count : 1), 0);
+}
+
+/**
  * Whether an edit at a place isn't made up of shorter ones at places: the end of a text that was put in just after a character
  * has no name.
  * @param {PlacedEdit} edit

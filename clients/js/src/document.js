@@ -1,28 +1,22 @@
 /** A document of a session. */
 
-import { givenOf, throwIfAborted } from "./aborting.js";
-import { BEYOND, byNumbers, cut, linesOf, needsNumber, piecesOf } from "./action.js";
-import { NEVER, needDigest, newToken, tokenAfter } from "./again.js";
-import { lines, naming, parts, stretches } from "./calls.js";
+import { givenOf } from "./aborting.js";
+import { cut, needsNumber } from "./action.js";
+import { parts, stretches } from "./calls.js";
+import { askAll, editAll, make, needKnown } from "./making.js";
 import { keyOf } from "./marks.js";
 import { Reading } from "./reading.js";
 import { Stale } from "./refusals.js";
-import { LONGEST, isLasting, isWhole, lastingOf } from "./rules.js";
-
-/** How often places of several requests are asked for, until all are answered at one `rev`. */
-const ROUNDS = 8;
+import { LONGEST, isLasting, isWhole } from "./rules.js";
 
 /**
  * @typedef {import("./aborting.js").Abortable} Abortable
  * @typedef {import("./action.js").Lasting} Lasting
  * @typedef {import("./action.js").Place} Place
  * @typedef {import("./action.js").PlacedEdit} PlacedEdit
- * @typedef {import("./again.js").Request} Request
- * @typedef {import("./calls.js").Part} Part
  * @typedef {import("./changing.js").Changes} Changes
  * @typedef {import("./marks.js").Mark} Mark
  * @typedef {import("./marks.js").Span} Span
- * @typedef {import("./wire.js").Answer} Answer
  */
 
 /**
@@ -54,7 +48,8 @@ const ROUNDS = 8;
  * has to have read.
  *
  * In place of a number an edit may be given the name of a place that lasts, as `anchor` tells it: then it is made where that
- * is by then, whatever others did meanwhile, and needs no `rev`.
+ * is by then, whatever others did meanwhile, and needs no `rev`. But 257 characters or more just after a character can be
+ * `Stale` beside others who type.
  *
  * Each edit answers the document's new `rev` once it is settled on the disk: it then outlives a power cut.
  *
@@ -64,6 +59,9 @@ const ROUNDS = 8;
  * it are made. The tokens of all but the first follow from the one that is given. At a place that lasts some of these are made
  * by numbers, in just the text in which the place was asked for: where it takes several lines, and where a long text comes just
  * after a character. If others edit meanwhile it is asked for again, up to eight times, and then `Stale`.
+ *
+ * Calls are made in their order. A long text just after a character, and a call of several lines, aren't, unless they are
+ * awaited before the next call.
  *
  * A call whose `signal` is aborted rejects with the signal's reason. What was sent by then may be made, and nothing more of
  * the call is sent; an edit with a token of the caller's may be sent again.
@@ -91,7 +89,7 @@ export class Document {
     /** @type {PlacedEdit} */
     const edit = { op: "insert", at, text };
     const [, ...others] = cut(edit);
-    return others.length > 0 || needsNumber(edit) ? this.#make([edit], true, given) : this.edit(edit, given);
+    return others.length > 0 || needsNumber(edit) ? make(this, [edit], true, given) : this.edit(edit, given);
   }
 
   /**
@@ -104,8 +102,8 @@ export class Document {
    */
   delete(at, count, rev, token, options) {
     const given = givenOf({ rev, token }, options);
-    if (isLasting(at) && isWhole(count, LONGEST + 1)) return this.#make([{ op: "delete", at, count }], true, given);
-    return this.#editAll(stretches(at, count), given);
+    if (isLasting(at) && isWhole(count, LONGEST + 1)) return make(this, [{ op: "delete", at, count }], true, given);
+    return editAll(this, stretches(at, count), given);
   }
 
   /**
@@ -150,7 +148,7 @@ export class Document {
     const { parted = false, ...given } = givenOf({ rev, token }, options);
     // What is no list of edits is refused as it is.
     if (!Array.isArray(edits) || edits.length === 0) return this.edit({ op: "edits", edits }, given);
-    return this.#make(edits, parted, given);
+    return make(this, edits, parted, given);
   }
 
   /**
@@ -163,114 +161,9 @@ export class Document {
    */
   async edit(fields, rev, token, options) {
     const { signal, ...given } = givenOf({ rev, token }, options);
-    this.#needKnown(given.rev, signal);
+    needKnown(this, given.rev, signal);
     const answer = await this.session.send({ doc: this.number, token: given.token, ...fields, rev: given.rev }, { signal });
     return answer.rev;
-  }
-
-  /**
-   * Refuses the number of another session. After a crash, or at a peer, it may name another text, and would be taken for
-   * this one.
-   * @param {number} [rev]
-   * @param {AbortSignal} [signal]
-   */
-  #needKnown(rev, signal) {
-    throwIfAborted(signal);
-    if (rev !== undefined && !this.session.knowsRev(this.number)) throw new Stale(6, "stale");
-  }
-
-  /**
-   * Makes edits at once, or line by line, and gives the last answer.
-   * @param {readonly PlacedEdit[]} edits
-   * @param {boolean} parted
-   * @param {EditOptions} given
-   */
-  async #make(edits, parted, given) {
-    const names = [...new Set(edits.flatMap((edit) => lastingOf(edit).map(([, name]) => name)))];
-    if (names.length === 0) return this.#editAll(lines(linesOf(piecesOf(edits), parted)), given);
-    const all = [...linesOf(piecesOf(edits), parted)];
-    if (all.length === 1 && !all[0].some(({ edit }) => needsNumber(edit))) return this.#editAll(lines(all), given);
-    // What doesn't fit one line and may not be parted is refused before anything is asked.
-    const { length } = [...linesOf(byNumbers(edits, new Map(names.map((name) => [name, 0]))), parted)];
-    if (length > 1 && given.token !== undefined) needDigest();
-    return this.#editThere(edits, names, parted, given);
-  }
-
-  /**
-   * Makes edits at places that last by numbers, in just the text in which these were asked for. If that has moved on, it asks
-   * again.
-   * @param {readonly PlacedEdit[]} edits
-   * @param {string[]} names
-   * @param {boolean} parted
-   * @param {EditOptions} given
-   */
-  async #editThere(edits, names, parted, { rev, token, signal }) {
-    // A line whose answer is lost may be made later on. So it has one token, however often it is sent.
-    const once = token ?? newToken();
-    const before = this.session.parted;
-    this.#needKnown(rev, signal);
-    for (let left = rev === undefined ? ROUNDS : 1; ; left -= 1) {
-      const answers = await this.#askAll(parts(names).map((part) => ({ op: "places", anchors: part })), { signal });
-      const places = answers.flatMap((answer) => answer.places);
-      const read = answers[0].rev;
-      const made = lines(linesOf(byNumbers(edits, new Map(names.map((name, at) => [name, places[at] ?? BEYOND]))), parted));
-      const first = /** @type {Part} */ (made.next().value);
-      // In another text than the one that was named they are other numbers: there it is answered only if it was made before.
-      const isNamed = rev === undefined || (rev === read && before === this.session.parted);
-      const last = await this.edit(first.fields, { rev: isNamed ? read : NEVER, token: once, signal }).catch(naming(first)).catch((error) => {
-        if (!(error instanceof Stale) || left === 1) throw error;
-      });
-      // One that was made before is behind what was asked for, and so its places were others: so it is with the lines after it.
-      if (last !== undefined) return this.#editRest(made, last, { token, signal }, last <= read);
-    }
-  }
-
-  /**
-   * Makes parts of a call one after the other, and gives the last answer.
-   * @param {Generator<Part, void>} parts
-   * @param {EditOptions} given
-   * @returns {Promise<number>}
-   */
-  async #editAll(parts, { rev, token, signal }) {
-    const first = /** @type {Part} */ (parts.next().value);
-    const next = parts.next();
-    if (!next.done && token !== undefined) needDigest();
-    // This one is sent at once, in its order among other calls.
-    const last = await this.edit(first.fields, { rev, token, signal }).catch(naming(first));
-    return next.done ? last : this.#editRest(after(next.value, parts), last, { token, signal });
-  }
-
-  /**
-   * Makes the parts that are left, each after the one before it was answered.
-   * @param {Iterable<Part>} parts
-   * @param {number} before what the one before them was answered
-   * @param {EditOptions} given
-   * @param {boolean} wasMade whether these were made before, or aren't to be
-   */
-  async #editRest(parts, before, { token, signal }, wasMade = false) {
-    let last = before;
-    for (const part of parts) {
-      const given = { rev: wasMade ? NEVER : last, token: token && (await tokenAfter(token, String(part.made))), signal };
-      const made = wasMade ? this.edit(part.fields, given) : this.#editNext(part.fields, given);
-      last = await made.catch(naming(part));
-    }
-    return last;
-  }
-
-  /**
-   * Makes an edit after one that was answered with this `rev`. If it is `Stale` for a lost connection alone, it is sent anew.
-   * @param {Request} fields
-   * @param {EditOptions} given
-   * @returns {Promise<number>}
-   */
-  async #editNext(fields, given) {
-    for (;;) {
-      try {
-        return await this.edit(fields, given);
-      } catch (error) {
-        if (!(error instanceof Stale) || (await this.rev(given)) !== given.rev) throw error;
-      }
-    }
   }
 
   /**
@@ -325,7 +218,7 @@ export class Document {
   async changes(since, { signal } = {}) {
     const { parted } = this.session;
     // The text at 0 is empty everywhere. What is no number is refused as it is.
-    if (isWhole(since, 1)) this.#needKnown(since, signal);
+    if (isWhole(since, 1)) needKnown(this, since, signal);
     const { changes, rev } = await this.session.send({ op: "changes", doc: this.number, since }, { signal });
     // It was asked for again over another connection.
     if (since !== 0 && parted !== this.session.parted) throw new Stale(6, "stale");
@@ -357,7 +250,7 @@ export class Document {
    */
   async anchors(at, side, rev, options) {
     const { side: neighbour = "previous", ...given } = givenOf({ side, rev }, options);
-    const answers = await this.#askAll(parts(at).map((part) => ({ op: "anchors", at: part, side: neighbour })), given);
+    const answers = await askAll(this, parts(at).map((part) => ({ op: "anchors", at: part, side: neighbour })), given);
     return answers.flatMap(({ anchors }) => anchors);
   }
 
@@ -382,27 +275,8 @@ export class Document {
    * @returns {Promise<(number | null)[]>}
    */
   async places(anchors, rev, options) {
-    const answers = await this.#askAll(parts(anchors).map((part) => ({ op: "places", anchors: part })), givenOf({ rev }, options));
+    const answers = await askAll(this, parts(anchors).map((part) => ({ op: "places", anchors: part })), givenOf({ rev }, options));
     return answers.flatMap(({ places }) => places);
-  }
-
-  /**
-   * The answers to several requests, which are sent at once: at this `rev`, or else at any one.
-   * @param {Request[]} requests
-   * @param {AskOptions} given
-   * @returns {Promise<Answer[]>}
-   */
-  async #askAll(requests, { rev, signal }) {
-    for (let left = rev === undefined ? ROUNDS : 1; left > 0; left -= 1) {
-      const { parted } = this.session;
-      this.#needKnown(rev, signal);
-      const asked = requests.map((request) => this.session.send({ doc: this.number, ...request }, { signal }));
-      const answers = await Promise.all(asked);
-      const wanted = rev ?? answers[0]?.rev;
-      // After a lost connection the same number can name another text.
-      if (parted === this.session.parted && answers.every((answer) => answer.rev === wanted)) return answers;
-    }
-    throw new Stale(6, "stale");
   }
 
   /**
@@ -412,15 +286,4 @@ export class Document {
   async rev(options) {
     return (await this.read(options)).rev;
   }
-}
-
-/**
- * One more before others.
- * @template T
- * @param {T} first
- * @param {Iterable<T>} others
- */
-function* after(first, others) {
-  yield first;
-  yield* others;
 }

@@ -171,14 +171,27 @@ function standing(number, rev) {
   return { ok: true, places: [number], rev };
 }
 
-/** Runs a test over a document whose session is answered so, and has what it was asked. */
+/** How many operations the edits of a line are. */
+function sizeOf({ edits }) {
+  return edits.reduce((sum, { text, count = 1 }) => sum + (text === undefined ? count : [...text].length), 0);
+}
+
+/** What a line is answered that is made at the `rev` that it names, or so much later. */
+function made(request, more = 0) {
+  return { ok: true, rev: request.rev + sizeOf(request) + more };
+}
+
+/** Runs a test over a document whose session is answered so, and has what it was asked. In place of null the connection ends. */
 function withAnswers(answers, work) {
   const asked = [];
   const left = [...answers];
   const talk = async (socket, lines) => {
     for await (const line of { [Symbol.asyncIterator]: () => lines }) {
-      asked.push(JSON.parse(line));
-      socket.write(`${JSON.stringify(left.shift() ?? STALE)}\n`);
+      const request = JSON.parse(line);
+      asked.push(request);
+      const answer = left.length > 0 ? left.shift() : STALE;
+      if (answer === null) return;
+      socket.write(`${JSON.stringify(typeof answer === "function" ? answer(request) : answer)}\n`);
     }
   };
   return withTalk(talk, async (port) => {
@@ -199,14 +212,14 @@ test("what fits one line goes as it is", () =>
   }));
 
 test("a long text after a character is made where that was asked for", () =>
-  withAnswers([standing(7, 20), STALE, standing(9, 21), { ok: true, rev: 722 }], async (document, asked) => {
+  withAnswers([standing(7, 20), STALE, standing(9, 21), made], async (document, asked) => {
     assert.equal(await document.insert(`a1@${UNKNOWN}`, LONG), 722);
     assert.deepEqual(asked.map(({ op }) => op), ["places", "edits", "places", "edits"]);
-    const made = [asked[1], asked[3]];
-    assert.deepEqual(made.map(({ rev }) => rev), [20, 21]);
-    assert.deepEqual(made.map(placesOf), [[7, 263, 519], [9, 265, 521]]);
+    const lines = [asked[1], asked[3]];
+    assert.deepEqual(lines.map(({ rev }) => rev), [20, 21]);
+    assert.deepEqual(lines.map(placesOf), [[7, 263, 519], [9, 265, 521]]);
     // A line whose answer was lost may be made after all.
-    assert.equal(new Set(made.map(({ token }) => token)).size, 1);
+    assert.equal(new Set(lines.map(({ token }) => token)).size, 1);
   }));
 
 test("it is stale in the end", () =>
@@ -218,19 +231,64 @@ test("it is stale in the end", () =>
 test("further lines are made by numbers, and parted as before when they are sent again", async () => {
   const long = "x".repeat(70_000);
   let tokens;
-  await withAnswers([standing(7, 20), { ok: true, rev: 21 }, { ok: true, rev: 22 }], async (document, asked) => {
-    assert.equal(await document.insert("end", long, { token: TOKEN }), 22);
-    const made = asked.slice(1);
-    assert.deepEqual(made.flatMap(placesOf), Array.from({ length: 274 }, (_, piece) => 7 + 256 * piece));
-    assert.deepEqual(made.map(({ rev }) => rev), [20, 21]);
-    tokens = made.map(({ token }) => token);
+  let after;
+  await withAnswers([standing(7, 20), made, made], async (document, asked) => {
+    assert.equal(await document.insert("end", long, { token: TOKEN }), 70_020);
+    const lines = asked.slice(1);
+    after = 20 + sizeOf(lines[0]);
+    assert.deepEqual(lines.flatMap(placesOf), PLACES_FROM_7);
+    assert.deepEqual(lines.map(({ rev }) => rev), [20, after]);
+    tokens = lines.map(({ token }) => token);
   });
   // What comes after a line that was made then is known, or stale.
-  await withAnswers([standing(1_000_007, 20), { ok: true, rev: 20 }, STALE], async (document, asked) => {
+  await withAnswers([standing(1_000_007, 80_000), { ok: true, rev: after }, STALE], async (document, asked) => {
     await assert.rejects(document.insert("end", long, { token: TOKEN }), Stale);
-    assert.deepEqual(asked.slice(1).map(({ token, rev }) => [token, rev]), [[tokens[0], 20], [tokens[1], NEVER]]);
+    assert.deepEqual(asked.slice(1).map(({ token, rev }) => [token, rev]), [[tokens[0], 80_000], [tokens[1], NEVER]]);
   });
 });
+
+/** Where the parts of 70,000 characters go from the number 7 on. */
+const PLACES_FROM_7 = Array.from({ length: 274 }, (_, piece) => 7 + 256 * piece);
+
+test("a line that another call made in a later text isn't one of this", async () => {
+  for (const more of [-20, -1, 1, 10]) {
+    await withAnswers([standing(7, 20), (request) => made(request, more), STALE], async (document, asked) => {
+      await assert.rejects(document.insert("end", "x".repeat(70_000), { token: TOKEN }), Stale);
+      assert.deepEqual(asked.slice(1).map(({ rev }) => rev), [20, NEVER]);
+    });
+  }
+});
+
+test("each kind of edit counts as it is made", () =>
+  withAnswers([{ ok: true, places: [0, 7], rev: 20 }, made, made, made], async (document, asked) => {
+    const edits = [
+      { op: "delete", at: "start", count: 300 },
+      { op: "unmark", from: "start", to: "end", ...EM },
+      { op: "mark", from: "start", to: "end", ...EM },
+      { op: "insert", at: "end", text: "🦊".repeat(20_000) },
+    ];
+    assert.equal(await document.action(edits, { parted: true }), 20_322);
+    assert.deepEqual(asked.slice(1, 3).map(({ rev }) => rev), [20, 20 + sizeOf(asked[1])]);
+  }));
+
+test("from a line that is read late it goes on where that was made", () => {
+  const late = (request) => ({ ok: true, rev: 20 + sizeOf(request) });
+  const answers = [standing(7, 20), null, STALE, standing(9, 21), STALE, standing(50_000, 50_000), late, made];
+  return withAnswers(answers, async (document, asked) => {
+    assert.equal(await document.insert("end", "x".repeat(70_000)), 70_020);
+    const lines = asked.filter(({ op }) => op === "edits");
+    assert.deepEqual(lines.map(({ rev }) => rev), [20, NEVER, 21, 50_000, 20 + sizeOf(lines[0])]);
+    // By the numbers of the round in which it was made, not of a later one.
+    assert.deepEqual([lines[0], lines[4]].flatMap(placesOf), PLACES_FROM_7);
+    assert.equal(new Set(lines.map(({ token }) => token)).size, 2);
+  });
+});
+
+test("without a token of the caller's nobody asks for what was made before", () =>
+  withAnswers([standing(7, 20), (request) => made(request, 1)], async (document, asked) => {
+    await assert.rejects(document.insert("end", "x".repeat(70_000)), Stale);
+    assert.deepEqual(asked.map(({ op }) => op), ["places", "edits"]);
+  }));
 
 test("with a `rev` it is made in just that text", () =>
   withAnswers([{ ok: true, rev: 19 }, standing(7, 20), STALE], async (document, asked) => {

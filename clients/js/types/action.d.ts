@@ -12,6 +12,11 @@ export function piecesOf(edits: readonly PlacedEdit[]): Generator<Piece, void>;
  */
 export function byNumbers(edits: readonly PlacedEdit[], numbers: Map<string, number>): Generator<Piece, void>;
 /**
+ * How many operations edits are that were made: one for each character that is put in or taken away, and for each mark.
+ * @param {readonly Edit[]} edits
+ */
+export function operationsOf(edits: readonly Edit[]): number;
+/**
  * Whether an edit at a place isn't made up of shorter ones at places: the end of a text that was put in just after a character
  * has no name.
  * @param {PlacedEdit} edit

@@ -3,12 +3,9 @@
  * @typedef {import("./action.js").Lasting} Lasting
  * @typedef {import("./action.js").Place} Place
  * @typedef {import("./action.js").PlacedEdit} PlacedEdit
- * @typedef {import("./again.js").Request} Request
- * @typedef {import("./calls.js").Part} Part
  * @typedef {import("./changing.js").Changes} Changes
  * @typedef {import("./marks.js").Mark} Mark
  * @typedef {import("./marks.js").Span} Span
- * @typedef {import("./wire.js").Answer} Answer
  */
 /**
  * The neighbour that a place stays with: the character before it, so that what is typed there comes after it, or the next
@@ -35,7 +32,8 @@
  * has to have read.
  *
  * In place of a number an edit may be given the name of a place that lasts, as `anchor` tells it: then it is made where that
- * is by then, whatever others did meanwhile, and needs no `rev`.
+ * is by then, whatever others did meanwhile, and needs no `rev`. But 257 characters or more just after a character can be
+ * `Stale` beside others who type.
  *
  * Each edit answers the document's new `rev` once it is settled on the disk: it then outlives a power cut.
  *
@@ -45,6 +43,9 @@
  * it are made. The tokens of all but the first follow from the one that is given. At a place that lasts some of these are made
  * by numbers, in just the text in which the place was asked for: where it takes several lines, and where a long text comes just
  * after a character. If others edit meanwhile it is asked for again, up to eight times, and then `Stale`.
+ *
+ * Calls are made in their order. A long text just after a character, and a call of several lines, aren't, unless they are
+ * awaited before the next call.
  *
  * A call whose `signal` is aborted rejects with the signal's reason. What was sent by then may be made, and nothing more of
  * the call is sent; an edit with a token of the caller's may be sent again.
@@ -197,18 +198,14 @@ export class Document {
      * @param {Abortable} [options]
      */
     rev(options?: import("./aborting.js").Abortable | undefined): Promise<number>;
-    #private;
 }
 export type Abortable = import("./aborting.js").Abortable;
 export type Lasting = import("./action.js").Lasting;
 export type Place = import("./action.js").Place;
 export type PlacedEdit = import("./action.js").PlacedEdit;
-export type Request = import("./again.js").Request;
-export type Part = import("./calls.js").Part;
 export type Changes = import("./changing.js").Changes;
 export type Mark = import("./marks.js").Mark;
 export type Span = import("./marks.js").Span;
-export type Answer = import("./wire.js").Answer;
 /**
  * The neighbour that a place stays with: the character before it, so that what is typed there comes after it, or the next
  * one.

@@ -14,7 +14,7 @@ import peritext
 from fake import FakeDaemon
 from follows import GREETING, Following
 from peritext import Delete, Delta, Insert, Reset, Span
-from peritext.calls import Calls
+from peritext.calls import Asked, Calls
 from relay import Relay, end
 from support import PATIENCE, PROGRAM, Daemon
 from watches import soon
@@ -194,7 +194,7 @@ class Chance(Following):
         def read(calls, since):
             parted = calls.session.parted
             told = yield from changes(calls, since)
-            [answer] = yield [{"op": "spans", "doc": 1}]
+            [answer] = yield [Asked({"op": "spans", "doc": 1})]
             self.next = spans_of(answer) if parted == calls.session.parted else None
             return told
 

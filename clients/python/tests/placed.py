@@ -220,17 +220,57 @@ class Lost(WithDaemon):
                 self.assertEqual((text.read(), losing), ((f"a{LONG}bc", 703), []))
 
 
+    def test_a_line_that_is_read_late_isn_t_stale_if_nobody_else_edits(self):
+        """It lies in a connection that ended, and is read right after it was asked for over the next one."""
+        late = []
+
+        def talk(connection, lines):
+            with peritext.connect(self.daemon.port, retry=None) as behind:
+                for line in lines:
+                    request = json.loads(line)
+                    if request["op"] == "edits" and not late:
+                        late.append(request)
+                        return
+                    try:
+                        answer = behind.ask(**request)
+                    except peritext.Refused as refused:
+                        answer = {"ok": False, "code": refused.number, "error": refused.word}
+                    connection.sendall(json.dumps(answer).encode() + b"\n")
+                    if request["op"] == "edits" and len(late) == 1:
+                        late.append(behind.ask(**late[0]))
+
+        daemon = FakeDaemon(talk)
+        self.addCleanup(daemon.close)
+        with peritext.connect(daemon.port) as session:
+            text = session.document(1)
+            text.insert(0, "abc")
+            self.assertEqual(text.insert(text.anchor(1), LONGER), 3 + len(LONGER))
+            self.assertEqual((text.read(), len(late)), ((f"a{LONGER}bc", 3 + len(LONGER)), 2))
+
+
+def size_of(request):
+    """How many operations the edits of a line are."""
+    return sum(len(edit["text"]) if "text" in edit else edit.get("count", 1) for edit in request["edits"])
+
+
+def made(request, more=0):
+    """What a line is answered that is made at the `rev` that it names, or so much later."""
+    return {"ok": True, "rev": request["rev"] + size_of(request) + more}
+
+
 class Asked(WithFile):
     """What is asked of a document that others edit meanwhile."""
 
     def over(self, answers):
-        """A document of a daemon that answers so, and what it was asked."""
+        """A document of a daemon that answers so, and what it was asked. In place of None the connection ends."""
         asked, answers = [], iter(answers)
 
         def talk(connection, lines):
             for line, answer in zip(lines, answers):
                 asked.append(json.loads(line))
-                connection.sendall(json.dumps(answer).encode() + b"\n")
+                if answer is None:
+                    return
+                connection.sendall(json.dumps(answer(asked[-1]) if callable(answer) else answer).encode() + b"\n")
 
         daemon = FakeDaemon(talk)
         self.addCleanup(daemon.close)
@@ -266,15 +306,78 @@ class Asked(WithFile):
         self.assertEqual(len(asked), 16)
 
     def test_further_lines_are_made_by_numbers(self):
-        text, asked = self.over([self.standing(7, 20), *({"ok": True, "rev": 21 + k} for k in range(3))])
-        text.insert("end", LONG * 100, token=TOKEN)
+        text, asked = self.over([self.standing(7, 20), made, made])
+        self.assertEqual(text.insert("end", LONG * 100, token=TOKEN), 70_020)
         self.assertEqual([edit["at"] for request in asked[1:] for edit in request["edits"]], list(range(7, 70_007, 256)))
-        self.assertEqual([request["rev"] for request in asked[1:]], [20, 21])
+        self.assertEqual([request["rev"] for request in asked[1:]], [20, 20 + size_of(asked[1])])
         # It is parted as it was where it is sent again, when the place has another number. What comes after a line that was made then is known, or stale.
-        text, repeated = self.over([self.standing(1_000_007, 20), {"ok": True, "rev": 20}, self.STALE])
+        text, repeated = self.over([self.standing(1_000_007, 80_000), {"ok": True, "rev": 20 + size_of(asked[1])}, self.STALE])
         self.assertRaises(peritext.Stale, text.insert, "end", LONG * 100, token=TOKEN)
         self.assertEqual([request["token"] for request in repeated[1:]], [request["token"] for request in asked[1:]])
-        self.assertEqual([request["rev"] for request in repeated[1:]], [20, again.NEVER])
+        self.assertEqual([request["rev"] for request in repeated[1:]], [80_000, again.NEVER])
+
+    def test_a_line_that_another_call_made_in_a_later_text_isn_t_one_of_this(self):
+        for more in (-20, -1, 1, 10):
+            text, asked = self.over([self.standing(7, 20), lambda request, more=more: made(request, more), self.STALE])
+            self.assertRaises(peritext.Stale, text.insert, "end", LONG * 100, token=TOKEN)
+            self.assertEqual([request["rev"] for request in asked[1:]], [20, again.NEVER])
+
+    def test_each_kind_of_edit_counts_as_it_is_made(self):
+        edits = [{"op": "delete", "at": "start", "count": 300}, {"op": "unmark", "from": "start", "to": "end", "kind": "em"}]
+        edits += [{"op": "mark", "from": "start", "to": "end", "kind": "em"}, {"op": "insert", "at": "end", "text": "🦊" * 20_000}]
+        text, asked = self.over([{"ok": True, "places": [0, 7], "rev": 20}, made, made, made])
+        self.assertEqual(text.edits(edits, parted=True), 20_322)
+        self.assertEqual([request["rev"] for request in asked[1:3]], [20, 20 + size_of(asked[1])])
+
+    def test_a_line_that_is_read_late_is_gone_on_from_where_it_was_made(self):
+        text, asked = self.over([self.standing(7, 20), None, self.STALE, self.standing(9, 21), self.STALE, self.standing(50_000, 50_000), self.late, made])
+        self.assertEqual(text.insert("end", LONG * 100), 70_020)
+        made_of = [request for request in asked if request["op"] == "edits"]
+        self.assertEqual([request["rev"] for request in made_of], [20, again.NEVER, 21, 50_000, 20 + size_of(made_of[0])])
+        # Those of the round in which it was made, not of a later one.
+        self.assertEqual([edit["at"] for request in (made_of[0], made_of[-1]) for edit in request["edits"]], list(range(7, 70_007, 256)))
+        self.assertEqual(len({request["token"] for request in made_of}), 2)
+
+    def late(self, request):
+        return {"ok": True, "rev": 20 + size_of(request)}
+
+    def test_without_a_token_of_the_caller_s_nobody_asks_for_what_was_made_before(self):
+        text, asked = self.over([self.standing(7, 20), lambda request: made(request, 1)])
+        self.assertRaises(peritext.Stale, text.insert, "end", LONG * 100)
+        self.assertEqual([request["op"] for request in asked], ["places", "edits"])
+
+    def reading_first(self, text, line):
+        """Has another one read the text once more right before this line with edits is sent: over the next connection, if its first answer is None."""
+        begin, left = text.session.begin, [line]
+
+        def begun(request, *words):
+            if request["op"] == "edits" and left:
+                left[0] -= 1
+                if not left[0]:
+                    left.clear()
+                    begin({"op": "text", "doc": 1}).result()
+            return begin(request, *words)
+
+        text.session.begin = begun
+
+    def test_a_rev_of_one_connection_isn_t_sent_over_another_though_somebody_has_read_there(self):
+        told = {"ok": True, "rev": 20, "text": ""}
+        text, asked = self.over([self.standing(7, 20), None, told, self.standing(9, 20), made])
+        self.reading_first(text, 1)
+        self.assertEqual(text.insert(UNKNOWN, LONG), 720)
+        self.assertEqual([request["op"] for request in asked], ["places", "text", "text", "places", "edits"])
+        self.assertEqual([edit["at"] for edit in asked[-1]["edits"]], [9, 265, 521])
+
+    def test_nor_is_that_of_a_line_before_it_has_been_read_there(self):
+        def told(request):
+            return {"ok": True, "rev": 20 + size_of(asked[1]), "text": ""}
+
+        text, asked = self.over([self.standing(7, 20), made, None, told, told, told, made])
+        self.reading_first(text, 2)
+        self.assertEqual(text.insert("end", LONG * 100), 70_020)
+        # Over the next connection it is asked for the first line, to know the file.
+        self.assertEqual([request["op"] for request in asked], ["places", "edits", "text", "edits", "text", "text", "edits"])
+        self.assertEqual([request["rev"] for request in asked if request["op"] == "edits"], [20, again.NEVER, 20 + size_of(asked[1])])
 
     def test_with_a_rev_it_is_made_in_just_that_text(self):
         text, asked = self.over([{"ok": True, "rev": 19}, self.standing(7, 20), self.STALE])

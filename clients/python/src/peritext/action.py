@@ -167,6 +167,15 @@ def stays_with_next(place: str) -> bool:
     return place[0] in "be"
 
 
+def operations_of(edits: Iterable[Fields]) -> int:
+    """How many operations edits are that were made: one for each character that is put in or taken away, and for each mark.
+
+    >>> operations_of([inserting(0, "ab"), deleting(1, 300), {"op": "mark", "from": 0, "to": 1, "kind": "em"}])
+    303
+    """
+    return sum(len(edit["text"]) if edit["op"] == "insert" else edit.get("count", 1) for edit in edits)
+
+
 def needs_number(edit: Fields) -> bool:
     """Whether an edit at a place isn't made up of shorter ones at places: the end of a text that was put in just after a character has no name."""
     return is_long(edit) and is_lasting(edit.get("at"))

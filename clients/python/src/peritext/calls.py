@@ -1,6 +1,6 @@
 """The calls of a document, whoever runs them.
 
-Each is a generator: it yields the requests that are sent at once, is given their answers, and returns what it tells. So a thread that waits (`running`)
+Each is a generator: it yields what is asked at once, is given their answers, and returns what it tells. So a thread that waits (`running`)
 and an event loop (`aio`) run the same ones.
 """
 
@@ -9,7 +9,7 @@ from __future__ import annotations
 from typing import Any, Dict, Generator, Iterable, Iterator, List, NamedTuple, Optional, Protocol, Sequence, TypeVar
 from uuid import UUID, uuid4, uuid5
 
-from .action import BEYOND, Fields, Lasting, Piece, Place, by_numbers, cut, deleting, inserting, lines_of, marking, needs_number, pieces_of, unmarking
+from .action import BEYOND, Fields, Lasting, Piece, Place, by_numbers, cut, deleting, inserting, lines_of, marking, needs_number, operations_of, pieces_of, unmarking
 from .again import NEVER
 from .changing import Changes, step_of
 from .marks import Mark, Span
@@ -23,7 +23,16 @@ Result = TypeVar("Result")
 # A request, and what it is answered.
 Request = Dict[str, Any]
 Answer = Dict[str, Any]
-Call = Generator[List[Request], List[Answer], Result]
+
+
+class Asked(NamedTuple):
+    """A request. If it names a `rev` that a call has read, it is sent only over the connection over which that was: so many have ended before it."""
+
+    fields: Request
+    parted: Optional[int] = None
+
+
+Call = Generator[List[Asked], List[Answer], Result]
 
 
 class Reading(NamedTuple):
@@ -78,7 +87,7 @@ class Calls:
         return self._make(list(edits), rev, token, parted)
 
     def read(self) -> Call[Reading]:
-        [answer] = yield [{"op": "text", "doc": self.number}]
+        [answer] = yield [Asked({"op": "text", "doc": self.number})]
         return Reading(answer["text"], answer["rev"])
 
     def text(self) -> Call[str]:
@@ -88,7 +97,7 @@ class Calls:
         return (yield from self.read()).rev
 
     def spans(self) -> Call[list[Span]]:
-        [answer] = yield [{"op": "spans", "doc": self.number}]
+        [answer] = yield [Asked({"op": "spans", "doc": self.number})]
         return [Span.of(span) for span in answer["spans"]]
 
     def changes(self, since: int) -> Call[Changes]:
@@ -96,7 +105,7 @@ class Calls:
         # The text at 0 is empty everywhere. What is no number is refused as it is.
         if is_whole(since, 1) and not self.session.knows_rev(self.number):
             raise Stale(6, "stale")
-        [answer] = yield [{"op": "changes", "doc": self.number, "since": since}]
+        [answer] = yield [Asked({"op": "changes", "doc": self.number, "since": since})]
         # It was asked for again over another connection.
         if since != 0 and parted != self.session.parted:
             raise Stale(6, "stale")
@@ -114,19 +123,20 @@ class Calls:
     def place(self, anchor: str, rev: int | None) -> Call[int | None]:
         return (yield from self.places([anchor], rev))[0]
 
-    def _ask_all(self, op: str, fields: Request, name: str, values: list[Any], rev: int | None) -> Call[tuple[list[Any], int]]:
-        """What is answered for all of these values, by requests for some of them each, and the `rev`: this one, or else any one."""
+    def _ask_all(self, op: str, fields: Request, name: str, values: list[Any], rev: int | None) -> Call[tuple[list[Any], int, int]]:
+        """What is answered for all of these values, by requests for some of them each, the `rev`, this one or else any one, and how many connections had
+        ended before that was told."""
         parts = [values[first : first + MOST] for first in range(0, len(values), MOST)]
         for _ in range(ROUNDS if rev is None else 1):
             parted = self.session.parted
             if rev is not None and not self.session.knows_rev(self.number):
                 break
-            answers = yield [{"op": op, "doc": self.number, **fields, name: part} for part in parts]
+            answers = yield [Asked({"op": op, "doc": self.number, **fields, name: part}) for part in parts]
             revs = {answer["rev"] for answer in answers}
             # After a lost connection the same number can name another text.
             is_one = parted == self.session.parted and len(revs) <= 1
             if is_one and (rev is None or revs <= {rev}):
-                return [value for answer in answers for value in answer[op]], max(revs, default=0)
+                return [value for answer in answers for value in answer[op]], max(revs, default=0), parted
         raise Stale(6, "stale")
 
     def _make(self, edits: Sequence[Fields], rev: int | None, token: UUID | None, parted: bool) -> Call[int]:
@@ -150,56 +160,74 @@ class Calls:
         parted_before = self.session.parted
         if rev is not None and not self.session.knows_rev(self.number):
             raise Stale(6, "stale")
+        # The lines of each round, by the `rev` that they are made for.
+        rounds: dict[int, Iterator[Part]] = {}
         for left in range(ROUNDS if rev is None else 1, 0, -1):
-            found, read = yield from self._ask_all("places", {}, "anchors", names, None)
-            numbers = {name: BEYOND if number is None else number for name, number in zip(names, found)}
-            parts = _parts(lines_of(by_numbers(edits, numbers), parted))
+            parts, read, told = yield from self._parts_there(edits, names, parted)
+            first = next(parts)
             # In another text than the one that was named they are other numbers: there it is answered only if it was made before.
-            is_named = rev is None or (rev == read and parted_before == self.session.parted)
+            is_named = rev is None or (rev == read and parted_before == told)
+            if is_named:
+                rounds[read] = parts
             try:
-                last = yield from self._edit_part(next(parts), read if is_named else NEVER, once)
+                last = yield from (self._edit_part(first, read, once, told) if is_named else self._edit_part(first, NEVER, once))
             except Stale:
                 if left == 1:
                     raise
             else:
                 break
-        # One that was made before is behind what was asked for, and so its places were others: so it is with the lines after it.
-        return (yield from self._edit_rest(parts, last, token, was_made=last <= read))
+        # It may be known: from a line of an earlier round that was read late, or from another call, which had other places.
+        made = rounds.get(last - operations_of(first.fields["edits"]))
+        return (yield from self._edit_known(parts, last, token) if made is None else self._edit_rest(made, last, token, told))
+
+    def _parts_there(self, edits: Sequence[Fields], names: list[str], parted: bool) -> Call[tuple[Iterator[Part], int, int]]:
+        """Edits by numbers, in the text in which their places are asked for, its `rev`, and how many connections had ended before that was told."""
+        found, read, told = yield from self._ask_all("places", {}, "anchors", names, None)
+        numbers = {name: BEYOND if number is None else number for name, number in zip(names, found)}
+        return _parts(lines_of(by_numbers(edits, numbers), parted)), read, told
 
     def _edit_all(self, parts: Iterator[Part], rev: int | None, token: UUID | None) -> Call[int]:
         """Makes parts of a call one after the other, and gives the last answer."""
+        parted = self.session.parted
         last = yield from self._edit_part(next(parts), rev, token)
-        return (yield from self._edit_rest(parts, last, token))
+        return (yield from self._edit_rest(parts, last, token, parted))
 
-    def _edit_rest(self, parts: Iterator[Part], last: int, token: UUID | None, was_made: bool = False) -> Call[int]:
-        """Makes the parts that are left, each after the one before it was answered."""
+    def _edit_rest(self, parts: Iterator[Part], last: int, token: UUID | None, parted: int) -> Call[int]:
+        """Makes the parts that are left, each after the one before it was answered. Before that was sent, so many connections had ended."""
         for part in parts:
-            if was_made:
-                last = yield from self._edit_part(part, NEVER, _token_after(token, part.made))
-            else:
-                last = yield from self._edit_next(part, last, _token_after(token, part.made))
+            last, parted = yield from self._edit_next(part, last, _token_after(token, part.made), parted)
         return last
 
-    def _edit_next(self, part: Part, rev: int, token: UUID | None) -> Call[int]:
-        """Makes a part after one that was answered with this `rev`. If it is `Stale` for a lost connection alone, it is sent anew."""
+    def _edit_known(self, parts: Iterator[Part], last: int, token: UUID | None) -> Call[int]:
+        """Asks for the parts that are left, which are answered only if they were made before. Without a token of the caller's nobody knows them."""
+        for part in parts:
+            if token is None:
+                raise Stale(6, "stale")
+            last = yield from self._edit_part(part, NEVER, _token_after(token, part.made))
+        return last
+
+    def _edit_next(self, part: Part, rev: int, token: UUID | None, parted: int) -> Call[tuple[int, int]]:
+        """Makes a part after one that was answered with this `rev`, and gives how many connections had ended before it was sent, too. If it is `Stale`
+        for a lost connection alone, it is sent anew."""
         while True:
             try:
-                return (yield from self._edit_part(part, rev, token))
+                return (yield from self._edit_part(part, rev, token, parted)), parted
             except Stale:
+                parted = self.session.parted
                 if (yield from self.rev()) != rev:
                     raise
 
-    def _edit_part(self, part: Part, rev: int | None, token: UUID | None) -> Call[int]:
+    def _edit_part(self, part: Part, rev: int | None, token: UUID | None, parted: int | None = None) -> Call[int]:
         """Makes a part of a call. A refusal tells which edit of the caller's it is about."""
         try:
-            return (yield from self._edit(part.fields, rev, token))
+            return (yield from self._edit(part.fields, rev, token, parted))
         except Refused as refused:
             refused.at = None if refused.at is None else part.numbers[refused.at]
             raise
 
-    def _edit(self, fields: Request, rev: int | None, token: UUID | None) -> Call[int]:
+    def _edit(self, fields: Request, rev: int | None, token: UUID | None, parted: int | None = None) -> Call[int]:
         given = {"rev": rev, "token": token and str(token)}
-        [answer] = yield [{"doc": self.number, **fields, **{name: value for name, value in given.items() if value is not None}}]
+        [answer] = yield [Asked({"doc": self.number, **fields, **{name: value for name, value in given.items() if value is not None}}, parted)]
         return int(answer["rev"])
 
 

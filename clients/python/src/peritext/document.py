@@ -24,7 +24,7 @@ class Document:
     """A document, by its number. Places are counted in characters, from 0; an edit may name the `rev` that it was made for.
 
     In place of a number an edit may be given the name of a place that lasts, as `anchor` tells it: then it is made where that is by then, whatever
-    others did meanwhile, and needs no `rev`.
+    others did meanwhile, and needs no `rev`. But 257 characters or more just after a character can be `Stale` beside others who type.
 
     Each edit answers the document's new `rev` once it is settled on the disk: it then outlives a power cut. An edit with a `token` is made
     once, however often it is sent, and answered as at first: also by another session of the same file, and after a crash. A session of a daemon
@@ -35,6 +35,9 @@ class Document:
     document in between, the next one is `Stale`, and those before it are made. The tokens of all but the first follow from the one that is given.
     At a place that lasts some of these are made by numbers, in just the text in which the place was asked for: where it takes several lines, and where
     a long text comes just after a character. If others edit meanwhile it is asked for again, up to eight times, and then `Stale`.
+
+    Beside calls of other threads a long text just after a character, and a call of several lines, aren't made in the order of the calls, unless they
+    were answered before the next one.
     """
 
     def __init__(self, session: Session, number: int) -> None:

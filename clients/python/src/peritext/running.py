@@ -6,7 +6,7 @@ from concurrent.futures import Future
 from functools import partial
 from typing import TYPE_CHECKING, Callable
 
-from .calls import Answer, Call, Request, Result
+from .calls import Answer, Asked, Call, Result
 
 if TYPE_CHECKING:
     from .session import Session
@@ -14,7 +14,7 @@ if TYPE_CHECKING:
 
 def run(session: Session, call: Call[Result]) -> Result:
     """Sends what a call asks, waits for the answers, and gives what it tells."""
-    step: Callable[[], list[Request]] = call.__next__
+    step: Callable[[], list[Asked]] = call.__next__
     while True:
         try:
             requests = step()
@@ -29,11 +29,11 @@ def run(session: Session, call: Call[Result]) -> Result:
             step = partial(call.throw, error)
 
 
-def _answers(session: Session, requests: list[Request]) -> list[Answer]:
+def _answers(session: Session, requests: list[Asked]) -> list[Answer]:
     due: list[Future[Answer]] = []
     try:
         # All of them are under way at once.
-        due.extend(session.begin(request) for request in requests)
+        due.extend(session.begin(*request) for request in requests)
         return [answer.result() for answer in due]
     finally:
         # What was interrupted, as by Ctrl-C, is given up.

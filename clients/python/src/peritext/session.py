@@ -94,9 +94,10 @@ class Session:
         session, or of the connection before, could name another text."""
         return int(self.begin(fields).result()["rev"])
 
-    def begin(self, request: dict[str, Any]) -> Future[dict[str, Any]]:
-        """Sends a request, as `edit` has it if it names a `rev`, and doesn't wait for its answer."""
-        return self._sent(request, needs_rev="rev" in request)
+    def begin(self, request: dict[str, Any], parted: int | None = None) -> Future[dict[str, Any]]:
+        """Sends a request, as `edit` has it if it names a `rev`, and doesn't wait for its answer. If it is told how many connections had ended when that
+        was read, it is `Stale` too if another one has ended since, whatever was read over the next one meanwhile."""
+        return self._sent(request, needs_rev="rev" in request, parted=parted)
 
     def knows_rev(self, document: int) -> bool:
         """Whether this session was told a `rev` of a document. Before, the number of another session could name another text."""
@@ -107,7 +108,7 @@ class Session:
         """Sends a request and doesn't wait for its answer. Whoever cancels that gives up the answer alone: what was asked may be done."""
         return self._sent(fields, needs_rev=False)
 
-    def _sent(self, fields: dict[str, Any], needs_rev: bool) -> Future[dict[str, Any]]:
+    def _sent(self, fields: dict[str, Any], needs_rev: bool, parted: int | None = None) -> Future[dict[str, Any]]:
         request = self._named(fields)
         line = line_of(request)
         answer: Future[dict[str, Any]] = Future()
@@ -115,7 +116,7 @@ class Session:
             with self._listing:
                 if self._end is not None:
                     raise Ended(f"the session has ended ({self._end})")
-                if needs_rev and request["doc"] not in self._told:
+                if needs_rev and (request["doc"] not in self._told or parted not in (None, self.parted)):
                     raise Stale(6, "stale")
                 self._waiting.append(Owed(answer, request))
                 self._silence.begin()

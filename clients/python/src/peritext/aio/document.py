@@ -20,7 +20,8 @@ class Document:
 
     Each edit answers the document's new `rev` once it is settled on the disk: it then outlives a power cut. An edit with a `token` is made once,
     however often it is sent. Long inserts and deletes go as those of `peritext.Document` do. Calls of several tasks are made in the order in which
-    they were begun, so that `asyncio.gather` has many under way.
+    they were begun, so that `asyncio.gather` has many under way. A long text just after a character, and a call of several lines, aren't, unless they
+    are awaited before the next one; and 257 characters or more just after a character can be `Stale` beside others who type.
     """
 
     def __init__(self, runner: Runner, number: int) -> None:

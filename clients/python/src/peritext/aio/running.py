@@ -7,7 +7,7 @@ from concurrent.futures import Future, ThreadPoolExecutor
 from functools import partial
 from typing import Callable
 
-from ..calls import Answer, Call, Request, Result
+from ..calls import Answer, Asked, Call, Result
 from ..running import give_up
 from ..session import Session
 from .opening import GIVEN_UP, in_thread
@@ -25,7 +25,7 @@ class Runner:
 
     async def run(self, call: Call[Result]) -> Result:
         """Sends what a call asks, awaits the answers, and gives what it tells."""
-        step: Callable[[], list[Request]] = call.__next__
+        step: Callable[[], list[Asked]] = call.__next__
         while True:
             try:
                 requests = step()
@@ -52,8 +52,8 @@ class Runner:
         """Closes the session, after what was to be sent before: also if nobody waits for that any more, since it would keep its place."""
         await in_thread(self._sender.submit(self.session.close).result, lambda closed: None)
 
-    def _begun(self, requests: list[Request]) -> list[Future[Answer]]:
-        return [self.session.begin(request) for request in requests]
+    def _begun(self, requests: list[Asked]) -> list[Future[Answer]]:
+        return [self.session.begin(*request) for request in requests]
 
 
 def _give_up(sending: Future[list[Future[Answer]]]) -> None:
