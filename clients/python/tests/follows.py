@@ -172,7 +172,9 @@ class Ends(Following):
         reader = threading.Thread(target=lambda: found.extend(deltas))
         reader.start()
         told.put({"ok": True, "rev": 1})
-        time.sleep(STEP)
+        late = time.monotonic() + PATIENCE
+        while not found and time.monotonic() < late:
+            time.sleep(STEP)
         begun = time.monotonic()
         deltas.close()
         reader.join(PATIENCE)
