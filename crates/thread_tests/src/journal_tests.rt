@@ -33,89 +33,11 @@ fn first_replica() -> Result<ReplicaId, Fail> {
     Ok(ReplicaId::read(name).ok_or("nil")?)
 }
 
-/// Why a link ended.
-const CLOSED: Reason<'static> = Reason {
-    code: 27,
-    word: "link closed",
-};
-
-/// Events of a daemon, of sessions and of links that name no replica, and their lines.
-const LINES: [(Event<'static>, &str); 10] = [
-    (
-        Event::CommitFailed { reason: FAILED },
-        "event=commit_failed code=9 reason=failed\n",
-    ),
-    (Event::OpenedAnew, "event=opened_anew\n"),
-    (
-        Event::End {
-            reason: FAILED,
-            cause: Some(Cause {
-                status: 1,
-                sentence: "it failed",
-                about: About::Port(7_001),
-            }),
-        },
-        "event=end code=9 reason=failed status=1 cause=\"it failed\" port=7001\n",
-    ),
-    (
-        Event::SessionUp { session: 7 },
-        "event=session_up session=7\n",
-    ),
-    (
-        Event::SessionDown {
-            session: 7,
-            reason: FAILED,
-        },
-        "event=session_down session=7 code=9 reason=failed\n",
-    ),
-    (
-        Event::SessionRefused { reason: FAILED },
-        "event=session_refused code=9 reason=failed\n",
-    ),
-    (
-        Event::End {
-            reason: FAILED,
-            cause: None,
-        },
-        "event=end code=9 reason=failed\n",
-    ),
-    (
-        Event::LinkDown {
-            place: PLACE,
-            reason: CLOSED,
-        },
-        "event=link_down link=3 way=joined port=7101 code=27 reason=\"link closed\"\n",
-    ),
-    (
-        Event::LinkRefused {
-            port: 9,
-            reason: CLOSED,
-        },
-        "event=link_refused port=9 code=27 reason=\"link closed\"\n",
-    ),
-    (
-        Event::End {
-            reason: CLOSED,
-            cause: None,
-        },
-        "event=end code=27 reason=\"link closed\"\n",
-    ),
-];
-
 #[test]
-fn an_event_is_a_line(rt: HostRuntime) {
-    for (event, line) in &LINES {
-        assert!(rt; is_told(&rt, rt.alloc(), event, line), "{line}");
-    }
-}
-
-#[test]
-fn a_replica_is_named_in_a_line(rt: HostRuntime) -> Result<(), Fail> {
-    let replica = first_replica()?;
-    let place = PLACE;
+fn a_daemon_is_a_line(rt: HostRuntime) -> Result<(), Fail> {
     let listening = Event::Listening {
         file: "my \"notes\"\n",
-        replica,
+        replica: first_replica()?,
         sessions: 7_001,
         peers: 7_101,
         web: Some(7_201),
@@ -125,10 +47,64 @@ fn a_replica_is_named_in_a_line(rt: HostRuntime) -> Result<(), Fail> {
     let line =
         "event=listening file=\"my \\u{22}notes\\u{22}\\u{a}\" replica=00000000-0000-4000-8000-000000000001 sessions=7001 peers=7101 web=7201 operations=12 documents=2\n";
     assert!(rt; is_told(&rt, rt.alloc(), &listening, line));
+    let failed = Event::CommitFailed { reason: FAILED };
+    let line = "event=commit_failed code=9 reason=failed\n";
+    assert!(rt; is_told(&rt, rt.alloc(), &failed, line));
+    let line = "event=opened_anew\n";
+    assert!(rt; is_told(&rt, rt.alloc(), &Event::OpenedAnew, line));
+    let cause = Some(Cause {
+        status: 1,
+        sentence: "it failed",
+        about: About::Port(7_001),
+    });
+    let reason = FAILED;
+    let end = Event::End { reason, cause };
+    let line = "event=end code=9 reason=failed status=1 cause=\"it failed\" port=7001\n";
+    assert!(rt; is_told(&rt, rt.alloc(), &end, line));
+    Ok(())
+}
+
+#[test]
+fn a_session_is_a_line(rt: HostRuntime) -> Result<(), Fail> {
+    let reason = FAILED;
+    let up = Event::SessionUp { session: 7 };
+    let line = "event=session_up session=7\n";
+    assert!(rt; is_told(&rt, rt.alloc(), &up, line));
+    let down = Event::SessionDown { session: 7, reason };
+    let line = "event=session_down session=7 code=9 reason=failed\n";
+    assert!(rt; is_told(&rt, rt.alloc(), &down, line));
+    let refused = Event::SessionRefused { reason };
+    let line = "event=session_refused code=9 reason=failed\n";
+    assert!(rt; is_told(&rt, rt.alloc(), &refused, line));
+    let cause = None;
+    let end = Event::End { reason, cause };
+    let line = "event=end code=9 reason=failed\n";
+    assert!(rt; is_told(&rt, rt.alloc(), &end, line));
+    Ok(())
+}
+
+#[test]
+fn a_link_is_a_line(rt: HostRuntime) -> Result<(), Fail> {
+    let replica = first_replica()?;
+    let place = PLACE;
+    let reason = Reason {
+        code: 27,
+        word: "link closed",
+    };
     let up = Event::LinkUp { place, replica };
     let line =
         "event=link_up link=3 way=joined port=7101 replica=00000000-0000-4000-8000-000000000001\n";
     assert!(rt; is_told(&rt, rt.alloc(), &up, line));
+    let down = Event::LinkDown { place, reason };
+    let line = "event=link_down link=3 way=joined port=7101 code=27 reason=\"link closed\"\n";
+    assert!(rt; is_told(&rt, rt.alloc(), &down, line));
+    let refused = Event::LinkRefused { port: 9, reason };
+    let line = "event=link_refused port=9 code=27 reason=\"link closed\"\n";
+    assert!(rt; is_told(&rt, rt.alloc(), &refused, line));
+    let cause = None;
+    let end = Event::End { reason, cause };
+    let line = "event=end code=27 reason=\"link closed\"\n";
+    assert!(rt; is_told(&rt, rt.alloc(), &end, line));
     let copy = Event::Copy { place, replica };
     let line =
         "event=copy link=3 way=joined port=7101 replica=00000000-0000-4000-8000-000000000001 note=\"this file is a copy; both ends stop telling\"\n";
