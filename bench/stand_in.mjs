@@ -13,10 +13,26 @@ const PART = 256;
 
 export class StandIn {
   #store = new Store();
-  #document = this.#store.document(1);
+  #number;
+  #document;
   /** The characters that were named, by their numbers. */
   #named = new Map();
   #sockets;
+  /** How many milliseconds its answers took: it goes over all characters for each. */
+  spent = 0;
+
+  /** @param {number} number the document of which it knows places, and that is filled */
+  constructor(number) {
+    this.#number = number;
+    this.#document = this.#store.document(number);
+    const { answer } = this.#store;
+    this.#store.answer = (line) => {
+      const begun = performance.now();
+      const told = answer.call(this.#store, line);
+      this.spent += performance.now() - begun;
+      return told;
+    };
+  }
 
   /** Listens, and gives the port. */
   async listen() {
@@ -38,7 +54,7 @@ export class StandIn {
 
   /** Puts a text in, as somebody else does. */
   insert(at, text) {
-    this.#store.answer(JSON.stringify({ op: "insert", doc: 1, at, text }));
+    this.#store.answer(JSON.stringify({ op: "insert", doc: this.#number, at, text }));
   }
 
   #take(web) {

@@ -23,7 +23,10 @@ def catch_up(replica, peers):
     """Serves the replica, joined to the daemon, until it has all operations that the daemon has said that it has."""
     with socket.create_server(("127.0.0.1", 0)) as one, socket.create_server(("127.0.0.1", 0)) as other:
         free, unused = one.getsockname()[1], other.getsockname()[1]
-    served = subprocess.Popen([PROGRAM, "serve", replica, "--sessions", str(free), "--peers", str(unused), "--link", str(peers)])
+    words = [PROGRAM, "serve", replica, "--sessions", str(free), "--peers", str(unused), "--link", str(peers), "--ready"]
+    served = subprocess.Popen(words, stdout=subprocess.PIPE)
+    # A line once it listens, or none if it has ended.
+    served.stdout.readline()
     while served.poll() is None:
         with contextlib.suppress(peritext.NoDaemon, peritext.Ended), peritext.connect(free, retry=None) as session:
             applied, joined = session.ask(op="status")["applied"], session.peers().peers
@@ -37,6 +40,7 @@ def catch_up(replica, peers):
 def save(replica, made):
     """A copy, which never takes the replica's place (docs/OPERATING.md, Backups), and what its documents are."""
     shutil.copy(replica, made / "copy")
+    subprocess.check_call([PROGRAM, "check", made / "copy"], stdout=subprocess.DEVNULL)
     for line in map(json.loads, subprocess.check_output([PROGRAM, "list", made / "copy"]).splitlines()):
         if "doc" in line:
             words = [PROGRAM, "export", made / "copy", str(line["doc"]), "--to", "markdown"]

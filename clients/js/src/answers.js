@@ -14,7 +14,7 @@ export class NoAnswer extends Error {}
 export function answerOf(line, request) {
   const told = object(line);
   if (told.ok === true) {
-    need(told, FIELDS.get(request.op) ?? {});
+    need(told, fieldsOf(request));
     return told;
   }
   if (told.ok === false) {
@@ -22,6 +22,18 @@ export function answerOf(line, request) {
     return refused(told.code, told.error, request, atOf(told, request));
   }
   throw new NoAnswer("a line came that doesn't say `ok`");
+}
+
+/**
+ * The fields of an answer to a request.
+ * @param {Record<string, any>} request
+ * @returns {Fields}
+ */
+function fieldsOf({ op, docs, from = 0 }) {
+  // Whoever goes on after the last one comes to an end.
+  if (op === "find") return { rev: isNumber, places: risingFrom(from) };
+  if (op === "watch" && docs !== undefined) return { doc: (value) => isCount(value) && (docs === "all" || docs.includes(value)), rev: isNumber };
+  return FIELDS.get(op) ?? {};
 }
 
 /**
@@ -97,14 +109,20 @@ function arePlaces(value) {
   return Array.isArray(value) && value.every((place) => place === null || isNumber(place));
 }
 
-/** @param {unknown} value */
-function arePeers(value) {
-  return Array.isArray(value) && value.every(isPeer);
+/** @param {number} least */
+function risingFrom(least) {
+  return (/** @type {any} */ value) => {
+    return Array.isArray(value) && value.every((place, index) => isNumber(place) && place >= (index === 0 ? least : value[index - 1] + 1));
+  };
 }
 
-/** @param {any} value */
-function isPeer(value) {
-  return isObject(value) && isNumber(value.has) && isNumber(value.lacks) && isText(value.replica);
+/**
+ * Whether it is a list of objects with these fields.
+ * @param {Fields} fields
+ */
+function all(fields) {
+  const isOne = (/** @type {any} */ one) => isObject(one) && Object.entries(fields).every(([name, isRight]) => isRight(one[name]));
+  return (/** @type {any} */ value) => Array.isArray(value) && value.every(isOne);
 }
 
 /** @param {any} value */
@@ -153,6 +171,7 @@ const STEPS = new Map(
     "attributes,retain": { retain: isCount, attributes: areAllMarks },
   })),
 );
+const PEERS = all({ has: isNumber, lacks: isNumber, replica: isText });
 const REFUSAL = { code: isNumber, error: isText };
 const EDITED = { rev: isNumber };
 
@@ -173,7 +192,8 @@ const FIELDS = new Map(
     anchors: { rev: isNumber, anchors: areTexts },
     places: { rev: isNumber, places: arePlaces },
     status: { applied: isNumber, settled: isNumber, state: isText },
-    peers: { peers: arePeers, sessions: isNumber },
+    peers: { peers: PEERS, sessions: isNumber },
+    export: { rev: isNumber, text: isText },
     watch: EDITED,
   })),
 );

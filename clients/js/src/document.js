@@ -3,6 +3,7 @@
 import { givenOf } from "./aborting.js";
 import { cut, needsNumber } from "./action.js";
 import { parts, stretches } from "./calls.js";
+import { findAll } from "./finding.js";
 import { askAll, editAll, make, needKnown } from "./making.js";
 import { keyOf } from "./marks.js";
 import { Reading } from "./reading.js";
@@ -40,6 +41,16 @@ import { LONGEST, isLasting, isWhole } from "./rules.js";
  * A question's: the `rev` of a text that was read, so that the answer is of just this text, or `Stale`.
  * @typedef {Abortable & {rev?: number}} AskOptions
  * @typedef {AskOptions & {side?: Side}} AnchorOptions
+ */
+
+/**
+ * A search's: the place from which on it looks.
+ * @typedef {Abortable & {from?: number}} FindOptions
+ */
+
+/**
+ * The forms of a page.
+ * @typedef {"text" | "markdown" | "html"} Form
  */
 
 /**
@@ -200,6 +211,27 @@ export class Document {
   async readSpans(options) {
     const { spans, rev } = await this.session.send({ op: "spans", doc: this.number }, options);
     return { spans, rev };
+  }
+
+  /**
+   * The text as a page, with its marks: `html`, `markdown`, or `text` without them.
+   * @param {Form} form
+   * @param {Abortable} [options]
+   */
+  async export(form, options) {
+    return (await this.session.send({ op: "export", doc: this.number, to: form }, options)).text;
+  }
+
+  /**
+   * All places from one on (0, unless it is given) at which a text of 1 to 256 characters stands, overlapping ones too, and the
+   * `rev` of the text in which it was looked for. They count characters (Unicode scalar values). More than 1,024 go as several
+   * requests: unless all of them are answered at one `rev`, they are sent anew, and are `Stale` after eight times.
+   * @param {string} text
+   * @param {number | FindOptions} [from]
+   * @param {FindOptions} [options]
+   */
+  find(text, from, options) {
+    return findAll(this, text, givenOf({ from }, options));
   }
 
   /**

@@ -15,7 +15,10 @@
  * @typedef {import("./document.js").AnchorOptions} AnchorOptions
  * @typedef {import("./document.js").AskOptions} AskOptions
  * @typedef {import("./document.js").EditOptions} EditOptions
+ * @typedef {import("./document.js").FindOptions} FindOptions
+ * @typedef {import("./document.js").Form} Form
  * @typedef {import("./document.js").Side} Side
+ * @typedef {import("./finding.js").Found} Found
  * @typedef {import("./following.js").Change} Change
  * @typedef {import("./following.js").Reset} Reset
  * @typedef {import("./marks.js").Mark} Mark
@@ -24,6 +27,7 @@
  * @typedef {import("./wire.js").Peer} Peer
  * @typedef {import("./wire.js").Transport} Transport
  * @typedef {import("./watch.js").Options} WatchOptions
+ * @typedef {import("./watch_many.js").Settled} Settled
  */
 
 export { applied, delta } from "./changing.js";
@@ -36,4 +40,5 @@ export { Reading } from "./reading.js";
 export { Ended, NoDaemon, Refused, Stale } from "./refusals.js";
 export { Session } from "./session.js";
 export { Watch } from "./watch.js";
-export { WebConnection, connectWeb, followWeb, watchWeb } from "./web.js";
+export { WatchMany } from "./watch_many.js";
+export { WebConnection, connectWeb, followWeb, watchManyWeb, watchWeb } from "./web.js";

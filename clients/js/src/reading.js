@@ -1,7 +1,7 @@
 /** A text that was read. */
 
 import { givenOf } from "./aborting.js";
-import { toIndex, toPlace } from "./places.js";
+import { HALF, toIndex, toPlace } from "./places.js";
 import { Stale } from "./refusals.js";
 
 /**
@@ -112,6 +112,21 @@ export class Reading {
   async index(anchor, options) {
     const place = await this.document.place(anchor, this.#given(options));
     return place === null ? null : toIndex(this.text, place);
+  }
+
+  /**
+   * All indexes from one on at which a text stands, overlapping ones too. It is looked for here, and nobody is asked.
+   * @param {string} text
+   * @param {number} from
+   */
+  find(text, from = 0) {
+    if (text === "") throw new RangeError("an empty text stands nowhere");
+    /** @type {number[]} */
+    const found = [];
+    // Half a character is none.
+    if (HALF.test(text)) return found;
+    for (let at = this.text.indexOf(text, from); at >= 0; at = this.text.indexOf(text, at + 1)) found.push(at);
+    return found;
   }
 
   /**

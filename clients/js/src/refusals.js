@@ -48,7 +48,7 @@ const TOKEN = "an older program knows no `token`; start one that is as new as th
  * The requests that an older program doesn't know.
  * @type {Set<unknown>}
  */
-const LATER = new Set(["watch", "changes", "anchors", "places", "edits"]);
+const LATER = new Set(["watch", "changes", "anchors", "places", "edits", "find", "export"]);
 
 /**
  * Why, and what to do, after a refusal of a request, if that is known.
@@ -64,6 +64,7 @@ function sentence(number, request) {
 
 /** @param {import("./rules.js").Request} request */
 function ofLimit(request) {
+  if (request.op === "find") return ofFields(request, ADVICE[7]);
   if (isLong(request)) return LONG;
   return areEdits(request.edits) && request.edits.some(({ op }) => op === "delete") ? MUCH : FULL;
 }
@@ -88,8 +89,8 @@ function unknownTo(request) {
 }
 
 /** @param {import("./rules.js").Request} request */
-function older({ op }) {
-  return `an older program knows no \`${op}\`; start one that is as new as this client`;
+function older({ op, docs }) {
+  return `an older program knows no \`${op}\`${docs === undefined ? "" : " of many documents"}; start one that is as new as this client`;
 }
 
 /**

@@ -16,8 +16,12 @@ export const MOST = 256;
 /** How many edits one request may make. */
 export const MANY = 1_024;
 
+/** How many places one answer tells where a text stands, and how many documents one watch may have. */
+export const FOUND = 1_024;
+export const WATCHED = 1_024;
+
 /**
- * The fields that a request needs, and those that a mark needs beside them.
+ * The fields that a request needs, and those that a mark needs beside them, or a watch of many documents in their place.
  * @type {Record<string, string>}
  */
 const NEEDED = {
@@ -31,6 +35,8 @@ const NEEDED = {
   changes: "doc since",
   anchors: "doc at side",
   places: "doc anchors",
+  find: "doc text",
+  export: "doc to",
   watch: "doc",
 };
 /** @type {Record<string, string>} */
@@ -38,10 +44,11 @@ const BESIDE = {
   "mark link": "url",
   "mark comment": "id",
   "unmark comment": "id",
+  "watch docs": "docs",
 };
 
 /**
- * The fields that any edit may have.
+ * The fields that an edit may have, and a search.
  * @type {Record<string, string>}
  */
 const OPTIONAL = {
@@ -50,6 +57,7 @@ const OPTIONAL = {
   mark: "rev token",
   unmark: "rev token",
   edits: "rev token",
+  find: "from",
 };
 
 /** The requests that may be made by one of `edits`, and the fields that stand beside the list. */
@@ -80,8 +88,13 @@ const RULES = {
   side: "previous or next",
   anchors: "a list of 1 to 256 places that last, each a text as the request `anchors` gives it",
   edits: "a list of 1 to 1024 edits, each an insert, delete, mark or unmark without `doc`, `rev` and `token`",
+  "find text": "a text of 1 to 256 characters",
+  "find from": "a whole number from 0 to 4294967295",
+  "export to": "text, markdown or html",
+  docs: "a list of 1 to 1024 whole numbers from 1 to 4294967295, or all",
 };
 const KINDS = new Set(["strong", "em", "link", "comment"]);
+const FORMS = new Set(["text", "markdown", "html"]);
 const UUID = /^(urn:uuid:|\{)?[0-9a-f]{8}(-?[0-9a-f]{4}){3}-?[0-9a-f]{12}\}?$/i;
 const NIL = /^(urn:uuid:)?[0{}-]*$/;
 const BESIDE_CHARACTER = /^[ab]([1-9][0-9]{0,14})@([0-9a-fA-F]{8}(?:-[0-9a-fA-F]{4}){3}-[0-9a-fA-F]{12})$/;
@@ -93,7 +106,8 @@ const BESIDE_CHARACTER = /^[ab]([1-9][0-9]{0,14})@([0-9a-fA-F]{8}(?:-[0-9a-fA-F]
  */
 export function broken(request) {
   const op = String(request.op);
-  const needed = [...wordsOf(NEEDED, op), ...wordsOf(BESIDE, `${op} ${String(request.kind)}`)];
+  const beside = wordsOf(BESIDE, `${op} ${request.docs === undefined ? String(request.kind) : "docs"}`);
+  const needed = beside.includes("docs") ? beside : [...wordsOf(NEEDED, op), ...beside];
   const optional = wordsOf(OPTIONAL, op);
   // What is undefined isn't sent.
   const others = Object.keys(request).filter((name) => name !== "op" && request[name] !== undefined && !needed.includes(name));
@@ -238,6 +252,11 @@ function some(holds, most = MOST) {
   return (/** @type {any} */ value) => Array.isArray(value) && value.length >= 1 && value.length <= most && value.every(holds);
 }
 
+/** @param {any} value */
+function isSought(value) {
+  return isText(value) && [...value].length <= LONGEST;
+}
+
 /** @type {Record<string, (value: unknown) => boolean>} */
 const HOLDS = {
   doc: from(1),
@@ -256,4 +275,8 @@ const HOLDS = {
   side: (value) => value === "previous" || value === "next",
   anchors: some(isLasting),
   edits: some(isEdit, MANY),
+  "find text": isSought,
+  "find from": from(0),
+  "export to": (value) => FORMS.has(/** @type {string} */ (value)),
+  docs: (value) => value === "all" || some(from(1), WATCHED)(value),
 };

@@ -6,6 +6,7 @@ import { connectBy } from "./connecting.js";
 import { Following } from "./following.js";
 import { Lines } from "./lines.js";
 import { Watch } from "./watch.js";
+import { WatchMany } from "./watch_many.js";
 
 /** A daemon listens on this machine alone. */
 const HOST = "127.0.0.1";
@@ -74,6 +75,17 @@ export function connect(port, options = {}) {
  */
 export function watch(port, document, options = {}) {
   return new Watch(() => new Connection(port), document, options);
+}
+
+/**
+ * Tells of the changes of many documents, 1 to 1,024 of them or `"all"`, new ones too, over one connection, which takes one place
+ * more.
+ * @param {number} port
+ * @param {Iterable<number> | "all"} documents
+ * @param {import("./watch.js").Options} options
+ */
+export function watchMany(port, documents, options = {}) {
+  return new WatchMany(() => new Connection(port), documents, options);
 }
 
 /**

@@ -13,6 +13,9 @@ const BUSY = 8;
 const PATIENCE = 10_000;
 const PAUSE = 50;
 
+/** Milliseconds after which a transport is one that tells of all documents, though there is none of which it tells. */
+const MOMENT = 500;
+
 /** @typedef {import("./wire.js").Transport} Transport */
 
 /**
@@ -22,24 +25,34 @@ const PAUSE = 50;
  */
 
 /**
- * The `rev`s of a document's settled operations, each above the one before: one at first, and one after each change, or
- * after some at once. Whoever looks seldom is given the newest alone.
- *
- * It is an asynchronous iterator over a transport of its own, on which nothing else is asked, and it ends once it is
- * closed, also by a `break`, or its signal is aborted: then `next` throws the signal's reason, once. If the transport ends
- * otherwise, another one is taken, for `retry` milliseconds; then it throws `Ended`. It throws `Refused` if the device
- * failed (9), there is no place (8), or the daemon is an earlier one (3).
- * @implements {AsyncIterableIterator<number>}
+ * What a daemon tells over a transport on which nothing else is asked. Of each document the newest number alone is kept, until
+ * it is given.
+ * @template T
+ * @implements {AsyncIterableIterator<T>}
  */
-export class Watch {
+export class Watching {
   #begin;
   #request;
+  #given;
   #retry;
   #repeats;
-  /** Whether the next number is given though it may be that of before. */
-  #isRepeated = false;
-  #newest = -1;
-  #given = -1;
+  /**
+   * The newest number of each document.
+   * @type {Map<number, number>}
+   */
+  #newest = new Map();
+  /**
+   * The documents whose number is to be given, in the order in which it came.
+   * @type {Set<number>}
+   */
+  #news = new Set();
+  /**
+   * The documents of which this transport told.
+   * @type {Set<number>}
+   */
+  #heardOf = new Set();
+  /** Whether there was a daemon that told. */
+  #wasThere = false;
   #isClosed = false;
   #signal;
   /** Whether the signal's reason is still to be thrown. */
@@ -59,15 +72,17 @@ export class Watch {
 
   /**
    * @param {() => Transport | Promise<Transport>} begin a transport over which nothing was asked so far
-   * @param {number} document
-   * @param {Options & {repeats?: boolean}} options `repeats`: whether the first number over each transport is given, also if it
-   *   is that of before: it may name another text there
+   * @param {Record<string, any>} request
+   * @param {(document: number, rev: number) => T} given what is given for a document's number
+   * @param {Options & {repeats?: boolean}} options `repeats`: whether the first number of a document over each transport is given,
+   *   also if it is that of before: it may name another text there
    */
-  constructor(begin, document, { retry = RETRY, repeats = false, signal } = {}) {
+  constructor(begin, request, given, { retry = RETRY, repeats = false, signal } = {}) {
     check({ retry });
     needSignal(signal);
     this.#begin = begin;
-    this.#request = { op: "watch", doc: document };
+    this.#request = request;
+    this.#given = given;
     this.#retry = retry ?? 0;
     this.#repeats = repeats;
     this.#signal = signal;
@@ -80,9 +95,9 @@ export class Watch {
     return this;
   }
 
-  /** @returns {Promise<IteratorResult<number>>} */
+  /** @returns {Promise<IteratorResult<T>>} */
   async next() {
-    while (!this.#isClosed && this.#newest <= this.#given && this.#end === undefined) {
+    while (!this.#isClosed && this.#news.size === 0 && this.#end === undefined) {
       await new Promise((/** @type {(value?: unknown) => void} */ done) => this.#waiting.push(done));
     }
     if (this.#isAborted) {
@@ -90,12 +105,14 @@ export class Watch {
       throw this.#signal?.reason;
     }
     if (this.#isClosed) return { done: true, value: undefined };
-    if (this.#newest <= this.#given) throw this.#end;
-    this.#given = this.#newest;
-    return { done: false, value: this.#given };
+    for (const number of this.#news) {
+      this.#news.delete(number);
+      return { done: false, value: this.#given(number, /** @type {number} */ (this.#newest.get(number))) };
+    }
+    throw this.#end;
   }
 
-  /** @returns {Promise<IteratorResult<number>>} */
+  /** @returns {Promise<IteratorResult<T>>} */
   async return() {
     this.close();
     return { done: true, value: undefined };
@@ -135,7 +152,7 @@ export class Watch {
     }
   }
 
-  /** Hears what comes over a transport, to its end: whether a number came. */
+  /** Hears what comes over a transport, to its end: whether it told. */
   async #heard() {
     let transport;
     try {
@@ -144,7 +161,7 @@ export class Watch {
       return false;
     }
     this.#transport = transport;
-    this.#isRepeated = this.#repeats;
+    this.#heardOf.clear();
     if (this.#isClosed) cut(transport);
     return this.#all(transport);
   }
@@ -156,7 +173,9 @@ export class Watch {
   #all(transport) {
     return new Promise((done) => {
       let isHeard = false;
-      const timer = setTimeout(() => cut(transport), PATIENCE);
+      const hear = () => (this.#wasThere = isHeard = true);
+      // A file that nobody edited has no document to tell of.
+      const timer = this.#request.docs === "all" ? setTimeout(hear, MOMENT) : setTimeout(() => cut(transport), PATIENCE);
       const end = () => {
         clearTimeout(timer);
         done(isHeard);
@@ -166,7 +185,7 @@ export class Watch {
       transport.onLine = (line) => {
         clearTimeout(timer);
         if (this.#isTaken(line)) {
-          isHeard = true;
+          hear();
           return;
         }
         transport.onLine = () => {};
@@ -189,25 +208,51 @@ export class Watch {
   #isTaken(line) {
     try {
       const told = answerOf(line, this.#request);
-      if (!(told instanceof Refused)) return this.#isNext(told.rev);
+      if (!(told instanceof Refused)) return this.#isNext(this.#request.doc ?? told.doc, told.rev);
       // A place may come again where there was one.
-      if (told.number !== BUSY || this.#newest < 0) this.#finish(told);
+      if (told.number !== BUSY || !this.#wasThere) this.#finish(told);
     } catch (error) {
       if (!(error instanceof NoAnswer)) throw error;
     }
     return false;
   }
 
-  /** @param {number} rev */
-  #isNext(rev) {
-    if (rev < this.#newest) {
+  /**
+   * @param {number} number the document's
+   * @param {number} rev
+   */
+  #isNext(number, rev) {
+    const newest = this.#newest.get(number) ?? -1;
+    if (rev < newest) {
       this.#finish(new Ended("another file is served there now"));
       return false;
     }
-    if (this.#isRepeated) this.#given = -1;
-    this.#isRepeated = false;
-    this.#newest = rev;
+    if (rev > newest || (this.#repeats && !this.#heardOf.has(number))) this.#news.add(number);
+    this.#heardOf.add(number);
+    this.#newest.set(number, rev);
     this.#wake();
     return true;
+  }
+}
+
+/**
+ * The `rev`s of a document's settled operations, each above the one before: one at first, and one after each change, or
+ * after some at once. Whoever looks seldom is given the newest alone.
+ *
+ * It is an asynchronous iterator over a transport of its own, on which nothing else is asked, and it ends once it is
+ * closed, also by a `break`, or its signal is aborted: then `next` throws the signal's reason, once. If the transport ends
+ * otherwise, another one is taken, for `retry` milliseconds; then it throws `Ended`. It throws `Refused` if the device
+ * failed (9), there is no place (8), or the daemon is an earlier one (3).
+ * @extends {Watching<number>}
+ */
+export class Watch extends Watching {
+  /**
+   * @param {() => Transport | Promise<Transport>} begin a transport over which nothing was asked so far
+   * @param {number} document
+   * @param {Options & {repeats?: boolean}} options `repeats`: whether the first number over each transport is given, also if it
+   *   is that of before: it may name another text there
+   */
+  constructor(begin, document, options = {}) {
+    super(begin, { op: "watch", doc: document }, (_, rev) => rev, options);
   }
 }

@@ -3,6 +3,7 @@
 import { connectBy } from "./connecting.js";
 import { Following } from "./following.js";
 import { Watch } from "./watch.js";
+import { WatchMany } from "./watch_many.js";
 
 /** A daemon listens on this machine alone. */
 const HOST = "127.0.0.1";
@@ -107,6 +108,16 @@ export function connectWeb(port, options = {}) {
  */
 export function watchWeb(port, document, options = {}) {
   return new Watch(() => new WebConnection(port), document, options);
+}
+
+/**
+ * As `watchMany` has it, over a WebSocket of its own of the daemon whose `--web` port this is.
+ * @param {number} port
+ * @param {Iterable<number> | "all"} documents
+ * @param {import("./watch.js").Options} options
+ */
+export function watchManyWeb(port, documents, options = {}) {
+  return new WatchMany(() => new WebConnection(port), documents, options);
 }
 
 /**

@@ -19,7 +19,7 @@
  * @typedef {import("./changing.js").Step} Step
  * @typedef {{has: number, lacks: number, replica: string}} Peer
  * @typedef {{ok: true, rev: number, text: string, spans: Span[], changes: Step[], anchors: import("./rules.js").Lasting[], places: (number | null)[],
- *   applied: number, settled: number, state: string, peers: Peer[], sessions: number}} Answer
+ *   applied: number, settled: number, state: string, peers: Peer[], sessions: number, doc: number}} Answer
  */
 
 export {};

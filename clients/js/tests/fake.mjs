@@ -4,7 +4,7 @@ import { Model } from "./model.mjs";
 
 const TOKEN = /^(?!0{8}-0{4}-0{4}-0{4}-0{12}$)[0-9a-f]{8}(-[0-9a-f]{4}){3}-[0-9a-f]{12}$/;
 const WORDS = { 2: "syntax", 3: "request", 4: "field", 5: "range", 6: "stale", 7: "limit", 12: "stopping" };
-const READS = new Set(["text", "spans", "changes"]);
+const READS = new Set(["text", "spans", "changes", "find", "export"]);
 const EDITS = new Set(["insert", "delete", "mark", "unmark"]);
 /** How many edits are made at once. */
 const MANY = 1_024;
@@ -22,7 +22,7 @@ export class Store {
 
   /** A transport of a watch over this store. While it is `held`, it tells nothing. */
   watcher() {
-    const watcher = new FakeWatcher((number) => this.document(number).rev);
+    const watcher = new FakeWatcher((number) => this.document(number).rev, () => this.#edited());
     this.#watchers.add(watcher);
     return watcher;
   }
@@ -32,6 +32,11 @@ export class Store {
     const document = this.#documents.get(number) ?? new Model();
     this.#documents.set(number, document);
     return document;
+  }
+
+  /** The documents that were edited, by their numbers. */
+  #edited() {
+    return [...this.#documents].filter(([, { rev }]) => rev > 0).sort(([one], [other]) => one - other);
   }
 
   /** The file is opened anew: changes are told from now on, or from 0. Whoever does so cuts the sessions. */
@@ -133,28 +138,34 @@ class FakeWatcher {
   /** How many numbers were told. */
   count = 0;
   #revOf;
-  #number;
-  #told = -1;
+  #edited;
+  #request;
+  #told = new Map();
   /** Whether it has ended. */
   isOver = false;
 
-  constructor(revOf) {
+  constructor(revOf, edited) {
     this.#revOf = revOf;
+    this.#edited = edited;
   }
 
   send(line) {
-    this.#number = JSON.parse(line).doc;
+    this.#request = JSON.parse(line);
     setImmediate(() => this.tell());
   }
 
-  /** Says how many operations there are, if that wasn't said. */
+  /** Says how many operations there are of each document, if that wasn't said. */
   tell() {
-    if (this.isOver || this.held || this.#number === undefined) return;
-    const rev = this.#revOf(this.#number);
-    if (rev === this.#told) return;
-    this.#told = rev;
-    this.count += 1;
-    this.onLine(JSON.stringify({ ok: true, rev }));
+    if (this.isOver || this.held || this.#request === undefined) return;
+    const { doc, docs } = this.#request;
+    const numbers = docs === "all" ? this.#edited().map(([number]) => number) : (docs ?? [doc]);
+    for (const number of numbers) {
+      const rev = this.#revOf(number);
+      if (rev === this.#told.get(number)) continue;
+      this.#told.set(number, rev);
+      this.count += 1;
+      this.onLine(JSON.stringify({ doc: docs && number, ok: true, rev }));
+    }
   }
 
   release() {

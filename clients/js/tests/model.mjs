@@ -5,8 +5,9 @@
 const KINDS = ["strong", "em", "link", "comment"];
 const GREATEST = 2 ** 32 - 1;
 
-/** How many characters one edit puts in or takes away. */
+/** How many characters one edit puts in or takes away, and how many places one answer tells. */
 const MOST = 256;
+const FOUND = 1_024;
 
 /** Each request answers its fields, none for an edit, or the number of its refusal. */
 export class Model {
@@ -16,6 +17,8 @@ export class Model {
   characters = [];
   /** Since when changes are told, except for all of them. */
   #oldest = 0;
+  /** The characters that are shown now: in a long text nobody goes over all of them at each key. */
+  #shown = [];
 
   /** Forgets what the changes were up to now, as a file does that is opened anew. */
   forget() {
@@ -29,11 +32,12 @@ export class Model {
 
   putBack(kept) {
     Object.assign(this, kept);
+    this.#shown = this.characters.filter((character) => isShown(character, this.rev));
   }
 
   /** The characters that are shown at a number of operations. */
   at(rev) {
-    return this.characters.filter((character) => isShown(character, rev));
+    return rev === this.rev ? [...this.#shown] : this.characters.filter((character) => isShown(character, rev));
   }
 
   insert({ at, text }) {
@@ -47,6 +51,7 @@ export class Model {
     const marks = between(before ? marksOf(before) : {}, after ? marksOf(after) : {});
     const run = added.map((character) => ({ text: character, came: (this.rev += 1), gone: Infinity, marks: [{ rev: 0, marks }] }));
     this.characters.splice(this.characters.indexOf(before) + 1, 0, ...run);
+    this.#shown.splice(at, 0, ...run);
   }
 
   delete({ at, count }) {
@@ -54,7 +59,7 @@ export class Model {
     const shown = this.at(this.rev);
     if (at + count > shown.length) return 5;
     if (count > MOST) return 7;
-    for (const character of shown.slice(at, at + count)) character.gone = this.rev += 1;
+    for (const character of this.#shown.splice(at, count)) character.gone = this.rev += 1;
   }
 
   mark(request) {
@@ -93,13 +98,41 @@ export class Model {
     return { spans: spans.map(({ marks, text }) => ({ ...marks, text })) };
   }
 
+  find({ text, from = 0, rev }) {
+    const sought = typeof text === "string" ? [...text] : [];
+    if (sought.length < 1 || sought.length > MOST || !isPlace(from) || rev !== undefined) return 4;
+    const shown = this.at(this.rev).map((character) => character.text);
+    const places = [];
+    for (let at = from; at <= shown.length - sought.length && places.length < FOUND; at += 1) {
+      if (sought.every((character, index) => shown[at + index] === character)) places.push(at);
+    }
+    return { places };
+  }
+
+  /** Not as the program does it: the marks are left out. */
+  export({ to, rev }) {
+    if (!["text", "markdown", "html"].includes(to) || rev !== undefined) return 4;
+    const { text } = this.text();
+    return { text: to === "html" ? `<p>${text}</p>\n` : `${text}\n` };
+  }
+
   changes({ since, rev }) {
     if (!isPlace(since) || since > GREATEST || rev !== undefined) return 4;
     if (since > this.rev || (since > 0 && since < this.#oldest)) return 6;
     const steps = [];
+    const add = (step) => isJoined(steps[steps.length - 1], step) || steps.push(step);
+    // Most of a long text is as it was.
+    let same = 0;
     for (const character of this.characters) {
+      if (isAsBefore(character, since)) {
+        same += 1;
+        continue;
+      }
       const step = stepOf(character, since);
-      if (step !== undefined && !isJoined(steps[steps.length - 1], step)) steps.push(step);
+      if (step === undefined) continue;
+      if (same > 0) add({ retain: same });
+      same = 0;
+      add(step);
     }
     const last = steps[steps.length - 1];
     if (last?.retain !== undefined && last.attributes === undefined) steps.pop();
@@ -143,6 +176,11 @@ function marked({ comments = [], em, link, strong }, kind, isGiven, value) {
   if (kind === "link") return held(comments, em, isGiven && value, strong);
   const others = comments.filter((id) => id !== value);
   return held(isGiven ? [...others, value].sort() : others, em, link, strong);
+}
+
+/** Whether a character was shown then, and is now, with the same marks. */
+function isAsBefore({ came, gone, marks }, since) {
+  return came <= since && gone === Infinity && marks[marks.length - 1].rev <= since;
 }
 
 /** What became of a character since then: a step of its own, or nothing if it isn't shown at either end. */

@@ -27,6 +27,8 @@ run("cuts");
 run("limits");
 run("again");
 run("changing");
+run("found");
+run("watch_many");
 run("modelled");
 run("following");
 run("unfollowed");

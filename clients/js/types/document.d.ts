@@ -27,6 +27,14 @@
  * @typedef {AskOptions & {side?: Side}} AnchorOptions
  */
 /**
+ * A search's: the place from which on it looks.
+ * @typedef {Abortable & {from?: number}} FindOptions
+ */
+/**
+ * The forms of a page.
+ * @typedef {"text" | "markdown" | "html"} Form
+ */
+/**
  * A document, by its number. Places are counted in characters (Unicode scalar values), from 0; `read` gives a text with
  * edits that are counted as JavaScript's strings are. An edit may name the `rev` that it was made for, which this session
  * has to have read.
@@ -143,6 +151,21 @@ export class Document {
         rev: number;
     }>;
     /**
+     * The text as a page, with its marks: `html`, `markdown`, or `text` without them.
+     * @param {Form} form
+     * @param {Abortable} [options]
+     */
+    export(form: Form, options?: import("./aborting.js").Abortable | undefined): Promise<string>;
+    /**
+     * All places from one on (0, unless it is given) at which a text of 1 to 256 characters stands, overlapping ones too, and the
+     * `rev` of the text in which it was looked for. They count characters (Unicode scalar values). More than 1,024 go as several
+     * requests: unless all of them are answered at one `rev`, they are sent anew, and are `Stale` after eight times.
+     * @param {string} text
+     * @param {number | FindOptions} [from]
+     * @param {FindOptions} [options]
+     */
+    find(text: string, from?: number | FindOptions | undefined, options?: FindOptions | undefined): Promise<import("./finding.js").Found>;
+    /**
      * What changed since a `rev`, for whoever has the text of then: steps that make the text of now of it, from its start on,
      * and the `rev` of now. They count characters (Unicode scalar values). A character that stayed is the one that it was,
      * whatever equal ones stand beside it. From 0 on there is an `insert` for each span. `applied` makes the spans of now of
@@ -237,4 +260,14 @@ export type AskOptions = Abortable & {
 export type AnchorOptions = AskOptions & {
     side?: Side;
 };
+/**
+ * A search's: the place from which on it looks.
+ */
+export type FindOptions = Abortable & {
+    from?: number;
+};
+/**
+ * The forms of a page.
+ */
+export type Form = "text" | "markdown" | "html";
 import { Reading } from "./reading.js";

@@ -4,6 +4,7 @@ export { Lines } from "./lines.js";
 export { Reading } from "./reading.js";
 export { Session } from "./session.js";
 export { Watch } from "./watch.js";
+export { WatchMany } from "./watch_many.js";
 /**
  * The types of what calls take and give.
  */
@@ -59,7 +60,19 @@ export type EditOptions = import("./document.js").EditOptions;
 /**
  * The types of what calls take and give.
  */
+export type FindOptions = import("./document.js").FindOptions;
+/**
+ * The types of what calls take and give.
+ */
+export type Form = import("./document.js").Form;
+/**
+ * The types of what calls take and give.
+ */
 export type Side = import("./document.js").Side;
+/**
+ * The types of what calls take and give.
+ */
+export type Found = import("./finding.js").Found;
 /**
  * The types of what calls take and give.
  */
@@ -92,8 +105,12 @@ export type Transport = import("./wire.js").Transport;
  * The types of what calls take and give.
  */
 export type WatchOptions = import("./watch.js").Options;
+/**
+ * The types of what calls take and give.
+ */
+export type Settled = import("./watch_many.js").Settled;
 export { applied, delta } from "./changing.js";
 export { EM, STRONG, comment, link } from "./marks.js";
 export { toIndex, toPlace } from "./places.js";
 export { Ended, NoDaemon, Refused, Stale } from "./refusals.js";
-export { WebConnection, connectWeb, followWeb, watchWeb } from "./web.js";
+export { WebConnection, connectWeb, followWeb, watchManyWeb, watchWeb } from "./web.js";

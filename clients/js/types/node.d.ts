@@ -1,3 +1,3 @@
 export * from "./index.js";
 export { FileSession, init, open } from "./file.js";
-export { connect, follow, watch } from "./socket.js";
+export { connect, follow, watch, watchMany } from "./socket.js";

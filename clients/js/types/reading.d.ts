@@ -73,6 +73,12 @@ export class Reading {
      * @param {Abortable} [options]
      */
     index(anchor: string, options?: import("./aborting.js").Abortable | undefined): Promise<number | null>;
+    /**
+     * All indexes from one on at which a text stands, overlapping ones too. It is looked for here, and nobody is asked.
+     * @param {string} text
+     * @param {number} from
+     */
+    find(text: string, from?: number): number[];
     #private;
 }
 export type Abortable = import("./aborting.js").Abortable;

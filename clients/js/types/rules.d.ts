@@ -50,6 +50,9 @@ export const LONGEST: 256;
 export const MOST: 256;
 /** How many edits one request may make. */
 export const MANY: 1024;
+/** How many places one answer tells where a text stands, and how many documents one watch may have. */
+export const FOUND: 1024;
+export const WATCHED: 1024;
 export type Request = Record<string, unknown>;
 /**
  * The text of a place that lasts: the start or the end of the text, or just after or just before a character.

@@ -17,6 +17,14 @@ export function connect(port: number, options?: import("./connecting.js").Option
  */
 export function watch(port: number, document: number, options?: import("./watch.js").Options): Watch;
 /**
+ * Tells of the changes of many documents, 1 to 1,024 of them or `"all"`, new ones too, over one connection, which takes one place
+ * more.
+ * @param {number} port
+ * @param {Iterable<number> | "all"} documents
+ * @param {import("./watch.js").Options} options
+ */
+export function watchMany(port: number, documents: Iterable<number> | "all", options?: import("./watch.js").Options): WatchMany;
+/**
  * Shows a document of the daemon whose `--sessions` port this is, and each change of it. It has a session and a watch, which
  * take two places.
  * @param {number} port
@@ -25,4 +33,5 @@ export function watch(port: number, document: number, options?: import("./watch.
  */
 export function follow(port: number, document: number, options?: import("./following.js").Options): Following;
 import { Watch } from "./watch.js";
+import { WatchMany } from "./watch_many.js";
 import { Following } from "./following.js";

@@ -13,6 +13,13 @@ export function connectWeb(port: number, options?: import("./connecting.js").Opt
  */
 export function watchWeb(port: number, document: number, options?: import("./watch.js").Options): Watch;
 /**
+ * As `watchMany` has it, over a WebSocket of its own of the daemon whose `--web` port this is.
+ * @param {number} port
+ * @param {Iterable<number> | "all"} documents
+ * @param {import("./watch.js").Options} options
+ */
+export function watchManyWeb(port: number, documents: Iterable<number> | "all", options?: import("./watch.js").Options): WatchMany;
+/**
  * As `follow` has it, over two WebSockets of the daemon whose `--web` port this is.
  * @param {number} port
  * @param {number} document
@@ -42,4 +49,5 @@ export class WebConnection {
     #private;
 }
 import { Watch } from "./watch.js";
+import { WatchMany } from "./watch_many.js";
 import { Following } from "./following.js";

@@ -52,4 +52,5 @@ export type Answer = {
     state: string;
     peers: Peer[];
     sessions: number;
+    doc: number;
 };

@@ -30,6 +30,13 @@ def waits() -> List[peritext.Span]:
         kept: str = caret
         session.document(1).insert(peritext.Lasting(kept), "x")
         session.document(1).mark(caret, "end", peritext.EM)
+        found: peritext.Found = session.document(1).find("fox", start=3)
+        session.document(1).delete(found.places[0], 3, found.rev)
+        page: str = session.document(1).export("html")
+        free: int = 100 - len(page)
+        session.watch_many("every")  # type: ignore[arg-type]
+        for number, told in session.watch_many([1, 2]):
+            free -= number + told
         return session.document(1).spans()
 
 
@@ -43,6 +50,9 @@ async def awaits() -> int:
         shown: List[peritext.Span] = []
         async for delta in notes.follow():
             shown = delta.on(shown)
+        async with session.watch_many("all") as all_of_them:
+            async for settled in all_of_them:
+                print(settled.doc, settled.rev)
         async with session.watch(1) as revs:
             async for rev in revs:
                 return rev + len(await notes.text())

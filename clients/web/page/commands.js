@@ -1,5 +1,7 @@
 /** What keys and buttons do. Each command takes the editor's state and a place to send a transaction to, and says whether it does something. */
 
+import { TextSelection } from "prosemirror-state";
+
 import { schema } from "./schema.js";
 
 const { strong, em, link, comment } = schema.marks;
@@ -39,6 +41,19 @@ export function setLink(href) {
     dispatch(tr.addMark(from, to, link.create({ href })));
     return true;
   };
+}
+
+/** Selects a stretch. */
+export function selectRange({ from, to }) {
+  return ({ tr, doc }, dispatch) => {
+    dispatch(tr.setSelection(TextSelection.create(doc, from, to)).scrollIntoView());
+    return true;
+  };
+}
+
+/** What is selected, if it is within one paragraph. */
+export function selectedWords({ doc, selection: { from, to, $from, $to } }) {
+  return $from.sameParent($to) ? doc.textBetween(from, to) : "";
 }
 
 /** A new comment on what is selected. Several may stand on one character. */
@@ -113,7 +128,16 @@ function forward({ tr, selection }, dispatch) {
 const KEYS = { Enter: split, "Shift-Enter": split, Backspace: backspace, "Mod-Backspace": backspace, Delete: forward };
 
 /** The keys that do what a button does. */
-const BUTTONS = { "Mod-b": "strong", "Mod-i": "em", "Mod-k": "link", "Mod-Alt-m": "comment", "Mod-z": "undo", "Mod-y": "redo", "Mod-Shift-z": "redo" };
+const BUTTONS = {
+  "Mod-b": "strong",
+  "Mod-i": "em",
+  "Mod-k": "link",
+  "Mod-Alt-m": "comment",
+  "Mod-z": "undo",
+  "Mod-y": "redo",
+  "Mod-Shift-z": "redo",
+  "Mod-f": "find",
+};
 
 /** The command of a key, or nothing. */
 export function commandOf(event) {

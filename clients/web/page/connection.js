@@ -3,9 +3,10 @@
  * others do there is shown as soon as the daemon tells of it.
  */
 
-import { Ended, Refused, Session, Watch } from "peritext";
+import { Ended, Refused, Session, Watch, WatchMany } from "peritext";
 
 import { seen } from "./seen.js";
+import { ToldOfAll } from "./told_of_all.js";
 import { Wire } from "./wire.js";
 
 /**
@@ -28,7 +29,7 @@ const AGAIN = 400;
 export class Connection {
   /** Where the daemon takes WebSockets, while it runs. */
   #port;
-  /** The session that there is, and its wire. */
+  /** The session that there is, its wire, and what tells of all documents. */
   #here;
   /**
    * What is followed, each with what ends that.
@@ -87,11 +88,13 @@ export class Connection {
   /** Serves all that is followed over one connection, to its end. */
   async #serveAll(port) {
     const wire = new Wire(port);
+    let all;
     try {
       const session = new Session(wire);
       // The last place is for those who first ask for the status.
       await session.settled();
-      this.#here = { session, wire, port };
+      all = new ToldOfAll(new WatchMany(() => new Wire(port), "all", { retry: null }));
+      this.#here = { session, wire, port, all };
       for (const one of this.#followed.keys()) this.#serve(one, this.#here);
       await wire.over;
     } catch (error) {
@@ -99,18 +102,21 @@ export class Connection {
     }
     this.#here = undefined;
     for (const one of this.#followed.keys()) one.over(undefined);
+    all?.close();
     wire.close();
   }
 
   /** Shows what others do in a document, until the session ends, or it is followed no longer. */
-  async #serve(one, { session, wire, port }) {
+  async #serve(one, { session, wire, port, all }) {
     const { signal } = this.#followed.get(one);
     const isOver = () => wire.isOver || signal.aborted;
     try {
       await one.over(session.document(one.number));
       await this.#pull(one);
-      await this.#followTold(one, port, wire, signal);
-      // An earlier daemon doesn't tell, nor one without a place for that.
+      await this.#followTold(one, all.of(one.number, signal), wire);
+      // An earlier daemon tells of one document over a connection.
+      if (!isOver()) await this.#followAlone(one, port, wire, signal);
+      // One that is still earlier doesn't tell, nor one without a place for that.
       while (!isOver()) {
         await this.#pull(one);
         await pause(LOOK);
@@ -123,17 +129,27 @@ export class Connection {
     }
   }
 
-  /**
-   * Shows what others do as soon as the daemon tells of it, for as long as it does. In the background nothing is asked for:
-   * all that came meanwhile is one change, once the page is seen again.
-   */
-  async #followTold(one, port, wire, signal) {
-    if (wire.isOver || signal.aborted) return;
+  async #followAlone(one, port, wire, signal) {
     const watch = new Watch(() => new Wire(port), one.number, { retry: null });
     wire.over.then(() => watch.close());
     signal.addEventListener("abort", () => watch.close());
     try {
-      for await (const rev of watch) {
+      await this.#followTold(one, watch, wire);
+    } finally {
+      watch.close();
+    }
+  }
+
+  /**
+   * Shows what others do as soon as the daemon tells of it, for as long as it does. In the background nothing is asked for:
+   * all that came meanwhile is one change, once the page is seen again.
+   * @param {Followed} one
+   * @param {AsyncIterable<number>} revs
+   * @param {Wire} wire
+   */
+  async #followTold(one, revs, wire) {
+    try {
+      for await (const rev of revs) {
         await Promise.race([seen(), wire.over]);
         // What this page did itself it reads by itself.
         await one.settled();
@@ -141,8 +157,6 @@ export class Connection {
       }
     } catch (error) {
       if (!(error instanceof Ended || error instanceof Refused)) throw error;
-    } finally {
-      watch.close();
     }
   }
 

@@ -5,7 +5,7 @@ import { Ended } from "peritext";
 import { Legend } from "./authors/legend.js";
 import { Writers } from "./authors/writers.js";
 import { CaretRelay } from "./carets/relay.js";
-import { buttonOf, commandOf, setLink, toggleEm, toggleLink, toggleStrong } from "./commands.js";
+import { buttonOf, commandOf, selectRange, selectedWords, setLink, toggleEm, toggleLink, toggleStrong } from "./commands.js";
 import { Comments } from "./comments/comments.js";
 import { Connection } from "./connection.js";
 import { redo, undo } from "./history.js";
@@ -13,6 +13,7 @@ import { Lines } from "./lists/lines.js";
 import { FIRST, MOST, NAMES, REMARKS, lineOf, namedIn, newNumber, textsIn, toldApart } from "./lists/names.js";
 import { Notice } from "./notice.js";
 import { remembered } from "./remembered.js";
+import { Search } from "./search/search.js";
 import { showSelection } from "./shown_selection.js";
 import { TextEditor } from "./text_editor.js";
 import { Texts } from "./texts.js";
@@ -31,6 +32,7 @@ export class Peer {
   #texts;
   #tools;
   #comments;
+  #search;
   #relay;
   #writers;
   #legend;
@@ -74,7 +76,13 @@ export class Peer {
       leave: () => this.#open.view?.focus(),
     });
     this.#comments = new Comments(name, place, { remarks: this.#remarks, editor: () => this.#open.view, tell, refuse: (why) => this.#refuse(why) });
-    for (const part of [".tools", ".thread"]) this.#showsSelectionIn(this.#part(part));
+    this.#search = new Search(this.#part(".search"), name, {
+      finder: () => this.#open.finder,
+      onChange: () => this.#notice.clear("hint"),
+      tell,
+      leave: (range) => this.#leaveSearch(range),
+    });
+    for (const part of [".tools", ".thread", ".search"]) this.#showsSelectionIn(this.#part(part));
     for (const part of [".texts", ".thread"]) this.#part(part).addEventListener("input", () => this.#notice.clear("hint"));
     this.#relay = new CaretRelay(() => this.#tellOthers());
     this.#show(Number(sessionStorage.getItem(this.#memory)) || FIRST);
@@ -117,6 +125,7 @@ export class Peer {
   }
 
   #show(number) {
+    this.#open?.finder?.seek("");
     this.#open = this.#editorOf(number);
     this.#open.show(this.#part(".page"));
     sessionStorage.setItem(this.#memory, String(number));
@@ -126,6 +135,7 @@ export class Peer {
     this.#tellOthers();
     this.#open.carets?.lookAgain();
     this.#open.authors?.show(this.#isColoured);
+    this.#search.again();
     this.#update();
   }
 
@@ -140,6 +150,7 @@ export class Peer {
       onOpen: () => this.#opened(),
       onChange: () => this.#update(),
       onError: (error) => this.#fail(error),
+      search: { onFound: () => this.#search.tell(), onFault: (error) => this.#refuse(error.message) },
       key: (event) => this.#key(event),
       comment: (id) => this.#comments.show(id),
       writers: this.#writers,
@@ -150,6 +161,7 @@ export class Peer {
   #opened() {
     this.#tellOthers();
     if (this.#isColoured) this.#open.authors?.show(true);
+    this.#search.again();
     this.#update();
   }
 
@@ -225,9 +237,16 @@ export class Peer {
     const commands = { strong: toggleStrong, em: toggleEm, link: address && linked(address), undo, redo };
     this.#notice.clear("hint");
     if (what === "comment" && this.#comments.begin()) return;
+    if (what === "find") return this.#search.open(selectedWords(this.#open.view.state));
     if (what === "writers") this.#colour();
     else if (!this.#dispatched(commands[what])) this.#hint(what, address);
     this.#open.view.focus();
+  }
+
+  /** @param {import("./search/drawn.js").Range} [range] what is to be selected */
+  #leaveSearch(range) {
+    if (range !== undefined) this.#dispatched(selectRange(range));
+    this.#open.view?.focus();
   }
 
   /** Has the text coloured by who wrote it, or no longer. */
@@ -256,6 +275,7 @@ export class Peer {
     saved.textContent = view === undefined ? "not read yet" : waiting === 0 ? "saved" : `${waiting} ${waiting === 1 ? "edit waits" : "edits wait"}`;
     this.#texts.update(this.#named, this.number);
     if (view !== undefined) this.#tools.update(view.state, this.#isColoured);
+    this.#search.update();
     this.#legend.update(this.#isColoured ? (this.#open.authors?.seen ?? []).map((by) => this.#writers.writer(by)) : []);
     this.#comments.update();
     this.#onChange();

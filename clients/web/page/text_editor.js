@@ -18,6 +18,8 @@ import { clipboardParser } from "./clipboard.js";
 import { showState } from "./drawn_selection.js";
 import { history } from "./history.js";
 import { schema } from "./schema.js";
+import { drawnSearch } from "./search/drawn.js";
+import { Finder } from "./search/finder.js";
 import { shownSelection } from "./shown_selection.js";
 import { spotlight } from "./comments/spotlight.js";
 
@@ -37,6 +39,8 @@ export class TextEditor {
   carets;
   /** @type {Authors | undefined} */
   authors;
+  /** @type {Finder | undefined} */
+  finder;
 
   /**
    * @param {number} number the document's
@@ -47,6 +51,7 @@ export class TextEditor {
    * @param {(error: Error) => void} acts.onError
    * @param {(event: KeyboardEvent) => boolean} acts.key
    * @param {(id: string) => void} acts.comment a comment was clicked
+   * @param {{onFound: () => void, onFault: (error: Error) => void}} acts.search
    * @param {(caret: {head: string, tail: string, document: number}) => void} acts.say
    * @param {import("./authors/writers.js").Writers} acts.writers
    */
@@ -104,12 +109,13 @@ export class TextEditor {
     this.#text.document = document;
     this.carets.over();
     this.authors.look();
+    this.finder.lookAnew();
   }
 
   async #open(document) {
-    const { onOpen, onError, key, comment, say, writers } = this.#acts;
+    const { onOpen, onError, key, comment, say, search, writers } = this.#acts;
     const binding = await bind({ model, state, transform }, schema, document, { onError });
-    const plugins = [binding.plugin, history(), spotlight(), shownSelection(), drawnAuthors((by) => writers.writer(by)), drawnCarets()];
+    const plugins = [binding.plugin, history(), spotlight(), shownSelection(), drawnAuthors((by) => writers.writer(by)), drawnSearch(), drawnCarets()];
     this.#binding = binding;
     this.view = new EditorView(this.#place, {
       state: state.EditorState.create({ doc: binding.doc, plugins }),
@@ -122,6 +128,7 @@ export class TextEditor {
     });
     this.#text = new BoundText(this.view, binding);
     this.authors = new Authors(this.view, this.#text, writers);
+    this.finder = new Finder(this.view, this.#text, search);
     this.carets = new Carets(this.view, this.#text, (places) => say({ ...places, document: this.number }));
     onOpen();
     if (this.#isAwaited && document.activeElement === document.body) this.view.focus();
@@ -131,6 +138,7 @@ export class TextEditor {
     showState(this.view, this.view.state.apply(transaction));
     this.carets.follow(transaction);
     this.authors.follow(transaction);
+    this.finder.follow(transaction);
     this.#acts.onChange();
   }
 

@@ -2,6 +2,7 @@
 
 import assert from "node:assert/strict";
 
+import { finds } from "./find_stand_in.mjs";
 import { withPage } from "./page.mjs";
 import { test } from "./timed.mjs";
 
@@ -15,6 +16,7 @@ const COLOURS = 6;
 
 /** A page with all that it can show. */
 async function filled(page) {
+  await finds(page);
   await page.type("alice", "The quick fox jumps over the lazy dog, and more");
   await page.agrees();
   await page.comment("alice", "quick fox", "Is it a red one? With words that take more than one line of a narrow window.");
@@ -34,6 +36,9 @@ async function filled(page) {
   await page.goTo("alice");
   await page.press("alice", "comment");
   await page.browser.until(() => document.querySelectorAll(".written").length > 4);
+  await page.press("bob", "find");
+  await page.browser.keys("o");
+  await page.browser.until(() => document.querySelectorAll("#bob .found.current").length > 0 && document.querySelectorAll("#bob .found").length > 2);
 }
 
 /** The words whose contrast is too low, each with it. */

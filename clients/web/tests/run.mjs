@@ -44,5 +44,6 @@ await run("presence", missing());
 await run("demo", missing() ?? noProgram);
 await run("kills", missing() ?? noProgram);
 await run("lists", missing() ?? noProgram);
-const shown = ["carets", "texts", "comments", "threads", "authors", "looks", "tools", "pasting", "selection"];
+await run("told_of_all", missing());
+const shown = ["carets", "texts", "search", "comments", "threads", "authors", "looks", "tools", "pasting", "selection"];
 for (const name of ["clock", "browser", "places", "background", ...shown, "typing", "wire"]) await run(name, missing() ?? noProgram ?? missingBrowser());

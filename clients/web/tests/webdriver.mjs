@@ -11,6 +11,7 @@ const ELEMENT = "element-6066-11e4-a52e-4f735466cecf";
 const CONTROL = "\uE009";
 const COMMAND = "\uE03D";
 const ALT = "\uE00A";
+const SHIFT = "\uE008";
 
 /** Milliseconds until something that is due has to have come. */
 const PATIENCE = 20_000;
@@ -106,9 +107,9 @@ export class Browser {
     return this.#ask("GET", `/element/${await this.#find(selector)}/computedlabel`);
   }
 
-  /** Types keys where the focus is, with Control, Command or Alt held where it is said. */
-  async keys(text, { control = false, command = false, alt = false } = {}) {
-    const held = [...(control ? [CONTROL] : []), ...(command ? [COMMAND] : []), ...(alt ? [ALT] : [])];
+  /** Types keys where the focus is, with Control, Command, Alt or Shift held where it is said. */
+  async keys(text, { control = false, command = false, alt = false, shift = false } = {}) {
+    const held = [...(control ? [CONTROL] : []), ...(command ? [COMMAND] : []), ...(alt ? [ALT] : []), ...(shift ? [SHIFT] : [])];
     const actions = [
       ...held.map((value) => ({ type: "keyDown", value })),
       ...[...text].flatMap((value) => [{ type: "keyDown", value }, { type: "keyUp", value }]),

@@ -1,7 +1,7 @@
 // What a program in TypeScript may write, and what it may not: `@ts-expect-error` is an error itself if the line below it is none.
 
-import { EM, Following, Reading, STRONG, Session, Stale, applied, connect, delta, follow, init, link, open, watch } from "peritext";
-import type { Change, Edit, EditOptions, Lasting, Mark, PlacedEdit, Reset, Span, Step, Transport } from "peritext";
+import { EM, Following, Reading, STRONG, Session, Stale, applied, connect, delta, follow, init, link, open, watch, watchMany } from "peritext";
+import type { Change, Edit, EditOptions, Form, Found, Lasting, Mark, PlacedEdit, Reset, Settled, Span, Step, Transport } from "peritext";
 import { bind as bindText } from "peritext/codemirror";
 import { bind } from "peritext/prosemirror";
 import { bind as bindContents } from "peritext/quill";
@@ -60,6 +60,25 @@ export async function reads(port: number): Promise<string> {
   const units: Step[] = delta(reading.text, steps);
   for await (const number of watch(port, 1, { retry: null })) if (number > rev) break;
   return `${spans.map(({ text, link }) => link ?? text)}${units.length}`;
+}
+
+export async function finds(port: number, signal: AbortSignal): Promise<string> {
+  const session = await connect(port);
+  const document = session.document(1);
+  const found: Found = await document.find("fox", { from: 3, signal });
+  await document.delete(found.places[0], 3, found.rev);
+  const indexes: number[] = (await document.read()).find("fox");
+  const form: Form = "markdown";
+  const page: string = await document.export(form);
+  // @ts-expect-error: there is no such form
+  await document.export("pdf");
+  // @ts-expect-error: it is a list of numbers, or all
+  watchMany(port, "every");
+  for await (const told of watchMany(port, [1, 2], { retry: null })) {
+    const { doc, rev }: Settled = told;
+    if (doc + rev > 100) break;
+  }
+  return `${page}${indexes}`;
 }
 
 export async function shows(port: number, signal: AbortSignal): Promise<void> {

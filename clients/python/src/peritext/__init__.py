@@ -16,14 +16,14 @@
 from .action import Action, Lasting
 from .changing import Changes, Delete, Insert, Retain, Step, applied
 from .daemon import connect
-from .document import Document, Reading
+from .document import Document, Found, Reading
 from .file import init, open
 from .following import Delta, Follow, Followed, Reset
 from .marks import EM, STRONG, Comment, Link, Mark, Marks, Span
 from .peers import Connected, Peer
 from .refusals import Ended, NoDaemon, Refused, Stale
 from .session import Session
-from .watching import Watch
+from .watching import Settled, Watch, WatchMany
 
 __all__ = [
     "Action",
@@ -37,6 +37,7 @@ __all__ = [
     "Ended",
     "Follow",
     "Followed",
+    "Found",
     "Insert",
     "Lasting",
     "Link",
@@ -50,10 +51,12 @@ __all__ = [
     "Retain",
     "STRONG",
     "Session",
+    "Settled",
     "Span",
     "Stale",
     "Step",
     "Watch",
+    "WatchMany",
     "applied",
     "connect",
     "init",

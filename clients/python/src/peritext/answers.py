@@ -23,14 +23,25 @@ def answer_of(line: bytes, request: Mapping[str, Any]) -> dict[str, Any] | Refus
     >>> answer_of(b'{"code":5,"error":"range","ok":false}', {"op": "insert", "doc": 1, "at": 9, "text": "abc"}).word
     'range'
     """
-    told, op = _object(line), request.get("op")
+    told = _object(line)
     if told.get("ok") is True:
-        _need(told, _FIELDS.get(op, {}) if isinstance(op, str) else {})
+        _need(told, _fields_of(request))
         return told
     if told.get("ok") is False:
         _need(told, _REFUSAL)
         return refused(told["code"], told["error"], request, _at(told, request))
     raise NoAnswer("a line came that doesn't say `ok`")
+
+
+def _fields_of(request: Mapping[str, Any]) -> Fields:
+    """The fields of an answer to a request."""
+    op: Any = request.get("op")
+    if op == "find":
+        # Whoever goes on after the last one comes to an end.
+        return {"rev": _is_number, "places": _rising_from(request.get("from", 0))}
+    if op == "watch" and "docs" in request:
+        return {"doc": _one_of(request["docs"]), "rev": _is_number}
+    return _FIELDS.get(op, {}) if isinstance(op, str) else {}
 
 
 def _object(line: bytes) -> dict[str, Any]:
@@ -116,12 +127,25 @@ def _are_places(value: Any) -> bool:
     return isinstance(value, list) and all(place is None or _is_number(place) for place in value)
 
 
-def _are_peers(value: Any) -> bool:
-    return isinstance(value, list) and all(map(_is_peer, value))
+def _rising_from(least: Any) -> Callable[[Any], bool]:
+    def are(value: Any) -> bool:
+        known = isinstance(value, list) and all(map(_is_number, value))
+        return known and all(one < next for one, next in zip([least - 1, *value], value))
+
+    return are
 
 
-def _is_peer(value: Any) -> bool:
-    return isinstance(value, dict) and all(is_right(value.get(key)) for key, is_right in _PEER.items())
+def _one_of(documents: Any) -> Callable[[Any], bool]:
+    return lambda value: _is_count(value) and (documents == "all" or value in documents)
+
+
+def _all(fields: Fields) -> Callable[[Any], bool]:
+    """Whether it is a list of objects with these fields."""
+
+    def is_right(value: Any) -> bool:
+        return isinstance(value, dict) and all(is_right(value.get(name)) for name, is_right in fields.items())
+
+    return lambda value: isinstance(value, list) and all(map(is_right, value))
 
 
 _PEER: Fields = {"has": _is_number, "lacks": _is_number, "replica": _is_text}
@@ -149,6 +173,7 @@ _FIELDS: dict[str, Fields] = {
     "anchors": {"rev": _is_number, "anchors": _are_texts},
     "places": {"rev": _is_number, "places": _are_places},
     "status": {"applied": _is_number, "settled": _is_number, "state": _is_text},
-    "peers": {"peers": _are_peers, "sessions": _is_number},
+    "peers": {"peers": _all(_PEER), "sessions": _is_number},
+    "export": {"rev": _is_number, "text": _is_text},
     "watch": _EDITED,
 }

@@ -14,7 +14,7 @@ from .again import NEVER
 from .changing import Changes, step_of
 from .marks import Mark, Span
 from .refusals import Refused, Stale
-from .rules import LONGEST, MOST, is_lasting, is_whole, lasting_of
+from .rules import FOUND, LONGEST, MOST, is_lasting, is_whole, lasting_of
 
 # How often several requests are made, until all are answered at one `rev`.
 ROUNDS = 8
@@ -39,6 +39,14 @@ class Reading(NamedTuple):
     """A text and the `rev` that it has: an edit that is sent in the same session with this `rev` is made in just this text, or is `Stale`."""
 
     text: str
+    rev: int
+
+
+class Found(NamedTuple):
+    """Where a text stands, by how many characters are before it, and the `rev` of the text in which it was looked for: an edit that is sent in the
+    same session with this `rev` is made in just that text, or is `Stale`."""
+
+    places: List[int]
     rev: int
 
 
@@ -99,6 +107,30 @@ class Calls:
     def spans(self) -> Call[list[Span]]:
         [answer] = yield [Asked({"op": "spans", "doc": self.number})]
         return [Span.of(span) for span in answer["spans"]]
+
+    def export(self, form: str) -> Call[str]:
+        [answer] = yield [Asked({"op": "export", "doc": self.number, "to": form})]
+        return str(answer["text"])
+
+    def find(self, text: str, start: int) -> Call[Found]:
+        if not text:
+            raise ValueError("an empty text is no request")
+        for _ in range(ROUNDS):
+            parted = self.session.parted
+            first = yield from self._find_some(text, start)
+            places, some = first.places, first
+            # Those that are left are looked for in the same text.
+            while len(some.places) == FOUND and (some.rev, self.session.parted) == (first.rev, parted):
+                some = yield from self._find_some(text, places[-1] + 1)
+                places = places + some.places
+            if (some.rev, self.session.parted) == (first.rev, parted):
+                return Found(places, first.rev)
+        raise Stale(6, "stale")
+
+    def _find_some(self, text: str, start: int) -> Call[Found]:
+        """The first of the places from one on, as many as one answer tells."""
+        [answer] = yield [Asked({"op": "find", "doc": self.number, "text": text, "from": start})]
+        return Found(answer["places"], answer["rev"])
 
     def changes(self, since: int) -> Call[Changes]:
         parted = self.session.parted

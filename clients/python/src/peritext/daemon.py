@@ -7,7 +7,7 @@ import socket
 import threading
 import time
 from collections import deque
-from typing import Any
+from typing import Any, Iterable, Literal
 
 from .again import is_edit, is_known, repeated, with_token
 from .answers import NoAnswer, answer_of
@@ -18,7 +18,7 @@ from .refusals import NoDaemon, Refused
 from .seconds import retry_of, timeout_of
 from .session import Owed, Session
 from .silence import TIMEOUT
-from .watching import Watch
+from .watching import Watch, WatchMany
 
 # A first answer is short: what is longer comes from somebody else.
 LONGEST = 65_536
@@ -62,6 +62,12 @@ class SocketSession(Session):
         True
         """
         return Watch(self._port, document, self._retry)
+
+    def watch_many(self, documents: Iterable[int] | Literal["all"]) -> WatchMany:
+        """Tells of the changes of many documents, 1 to 1,024 of them or `"all"`, new ones too, over one connection, and takes one place more. It fails
+        as `watch` does.
+        """
+        return WatchMany(self._port, documents, self._retry)
 
     def follow(self, document: int) -> Follow:
         """Tells a document as it changes, over a session and a watch of its own, and takes two places more: a `Reset` with the whole text at first,

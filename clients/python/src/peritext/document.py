@@ -6,7 +6,7 @@ from typing import TYPE_CHECKING, Any, Iterable
 from uuid import UUID
 
 from .action import Action, Fields, Lasting, Place
-from .calls import Calls, Reading
+from .calls import Calls, Found, Reading
 from .changing import Changes
 from .marks import Mark, Span
 from .running import run
@@ -17,7 +17,7 @@ if TYPE_CHECKING:
     from .following import Follow
     from .session import Session
 
-__all__ = ["Document", "Reading"]
+__all__ = ["Document", "Found", "Reading"]
 
 
 class Document:
@@ -108,6 +108,16 @@ class Document:
     def spans(self) -> list[Span]:
         """The text in runs of equal marks."""
         return run(self.session, self._calls.spans())
+
+    def export(self, form: str) -> str:
+        """The text as a page, with its marks: `html`, `markdown`, or `text` without them."""
+        return run(self.session, self._calls.export(form))
+
+    def find(self, text: str, start: int = 0) -> Found:
+        """All places from `start` on at which a text of 1 to 256 characters stands, overlapping ones too, and the `rev` of the text in which it was
+        looked for. More than 1,024 go as several requests: unless all of them are answered at one `rev`, they are sent anew, and are `Stale`
+        after eight times."""
+        return run(self.session, self._calls.find(text, start))
 
     def changes(self, since: int) -> Changes:
         """What changed since a `rev`, for whoever has the text of then: steps that make the text of now of it, from its start on, each over so

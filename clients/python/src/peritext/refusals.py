@@ -44,7 +44,7 @@ _MUCH = "what one action takes away waits together for the disk, 2,048 character
 _TOKEN = "an older program knows no `token`; start one that is as new as this client"
 _PLACE = "an older program takes no places that last in edits; start one that is as new as this client"
 # The requests that an older program doesn't know.
-_LATER = ("watch", "changes", "anchors", "places", "edits")
+_LATER = ("watch", "changes", "anchors", "places", "edits", "find", "export")
 
 
 def sentence(number: int, request: Mapping[str, Any] | None) -> str | None:
@@ -54,7 +54,8 @@ def sentence(number: int, request: Mapping[str, Any] | None) -> str | None:
     'at most 256 characters in one edit; send it in parts'
     """
     if number == 3 and request is not None and request.get("op") in _LATER:
-        return _of_fields(request, f"an older program knows no `{request['op']}`; start one that is as new as this client")
+        what = f"`{request['op']}`" + (" of many documents" if "docs" in request else "")
+        return _of_fields(request, f"an older program knows no {what}; start one that is as new as this client")
     if number == 4 and request is not None:
         return _of_fields(request, _PLACE if is_placed(request) else _TOKEN if "token" in request else ADVICE[4])
     if number == 7 and request is not None:
@@ -69,6 +70,8 @@ def _of_fields(request: Mapping[str, Any], otherwise: str) -> str:
 
 
 def _of_limit(request: Mapping[str, Any]) -> str:
+    if request.get("op") == "find":
+        return _of_fields(request, ADVICE[7])
     if is_long(request):
         return _LONG
     return _MUCH if any(edit["op"] == "delete" for edit in request.get("edits", ())) else _FULL

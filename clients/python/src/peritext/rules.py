@@ -11,7 +11,10 @@ LONGEST = 256
 MOST = 256
 # How many edits one request may make.
 MANY = 1_024
-# The fields that a request needs, and those that a mark needs beside them.
+# How many places one answer tells where a text stands, and how many documents one watch may have.
+FOUND = 1_024
+WATCHED = 1_024
+# The fields that a request needs, and those that a mark needs beside them, or a watch of many documents in their place.
 NEEDED = {
     "insert": "doc at text",
     "delete": "doc at count",
@@ -23,20 +26,24 @@ NEEDED = {
     "changes": "doc since",
     "anchors": "doc at side",
     "places": "doc anchors",
+    "find": "doc text",
+    "export": "doc to",
     "watch": "doc",
 }
 BESIDE = {
     "mark link": "url",
     "mark comment": "id",
     "unmark comment": "id",
+    "watch docs": "docs",
 }
-# The fields that any edit may have.
+# The fields that an edit may have, and a search.
 OPTIONAL = {
     "insert": "rev token",
     "delete": "rev token",
     "mark": "rev token",
     "unmark": "rev token",
     "edits": "rev token",
+    "find": "from",
 }
 # The requests that may be made by one of `edits`, and the fields that stand beside the list.
 ONE = ("insert", "delete", "mark", "unmark")
@@ -61,8 +68,13 @@ RULES = {
     "side": "previous or next",
     "anchors": "a list of 1 to 256 places that last, each a text as the request `anchors` gives it",
     "edits": "a list of 1 to 1024 edits, each an insert, delete, mark or unmark without `doc`, `rev` and `token`",
+    "find text": "a text of 1 to 256 characters",
+    "find from": "a whole number from 0 to 4294967295",
+    "export to": "text, markdown or html",
+    "docs": "a list of 1 to 1024 whole numbers from 1 to 4294967295, or all",
 }
 _KINDS = ("strong", "em", "link", "comment")
+_FORMS = ("text", "markdown", "html")
 _UUID = re.compile(r"(urn:uuid:|\{)?[0-9a-f]{8}(-?[0-9a-f]{4}){3}-?[0-9a-f]{12}\}?", re.IGNORECASE)
 _NIL = re.compile(r"[0{}-]*")
 _BESIDE_CHARACTER = re.compile(r"[ab]([1-9][0-9]{0,14})@([0-9a-fA-F]{8}(?:-[0-9a-fA-F]{4}){3}-[0-9a-fA-F]{12})")
@@ -77,12 +89,14 @@ def broken(request: Mapping[str, Any]) -> list[str]:
     ['`rev` is no field of this request']
     >>> broken({"op": "anchors", "doc": 1, "at": 7, "side": "previous"})
     ['`at` has to be a list of 1 to 256 whole numbers from 0 to 4294967295']
+    >>> broken({"op": "watch", "docs": "every"})
+    ['`docs` has to be a list of 1 to 1024 whole numbers from 1 to 4294967295, or all']
     >>> broken({"op": "edits", "doc": 1, "edits": [{"op": "insert", "at": 0, "text": ""}]})
     ['`text` of one of the `edits` has to be a text of at least one character']
     """
     op = f"{request.get('op')}"
-    marked = f"{op} {request.get('kind')}"
-    needed = [*NEEDED.get(op, "").split(), *BESIDE.get(marked, "").split()]
+    beside = BESIDE.get(f"{op} {'docs' if 'docs' in request else request.get('kind')}", "").split()
+    needed = beside if "docs" in beside else [*NEEDED.get(op, "").split(), *beside]
     others = [name for name in request if name not in needed and name != "op"]
     of_one = _of_one(request.get("edits")) if op == "edits" else []
     return [*_wrong(request, needed), *_strange(op, others), *_wrong(request, _optional(op, others)), *of_one]
@@ -175,6 +189,10 @@ def _is_some(value: Any, most: int, holds: Callable[[Any], bool]) -> bool:
     return isinstance(value, (list, tuple)) and 1 <= len(value) <= most and all(map(holds, value))
 
 
+def _is_sought(value: Any) -> bool:
+    return _is_text(value) and len(value) <= LONGEST
+
+
 def _from(least: int) -> Callable[[Any], bool]:
     return lambda value: is_whole(value, least)
 
@@ -196,4 +214,8 @@ _HOLDS: dict[str, Callable[[Any], bool]] = {
     "side": lambda value: value in ("previous", "next"),
     "anchors": lambda value: _is_some(value, MOST, is_lasting),
     "edits": lambda value: _is_some(value, MANY, _is_edit),
+    "find text": _is_sought,
+    "find from": _from(0),
+    "export to": lambda value: value in _FORMS,
+    "docs": lambda value: value == "all" or _is_some(value, WATCHED, _from(1)),
 }

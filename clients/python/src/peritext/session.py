@@ -7,7 +7,7 @@ from collections import deque
 from concurrent.futures import Future
 from io import BufferedReader, UnsupportedOperation
 from types import TracebackType
-from typing import IO, TYPE_CHECKING, Any, NamedTuple, TypeVar
+from typing import IO, TYPE_CHECKING, Any, Iterable, Literal, NamedTuple, TypeVar
 
 from .answers import NoAnswer, answer_of
 from .document import Document
@@ -20,7 +20,7 @@ from .silence import TIMEOUT, Silence
 if TYPE_CHECKING:
     from .daemon import SocketSession
     from .following import Follow
-    from .watching import Watch
+    from .watching import Watch, WatchMany
 
 # The kind of a session: over a file, or of a daemon.
 Kind = TypeVar("Kind", bound="Session")
@@ -75,6 +75,10 @@ class Session:
 
     def watch(self, document: int) -> Watch:
         """Tells of the changes of a document. Only a session of a daemon does."""
+        raise _untold()
+
+    def watch_many(self, documents: Iterable[int] | Literal["all"]) -> WatchMany:
+        """Tells of the changes of many documents. Only a session of a daemon does."""
         raise _untold()
 
     def follow(self, document: int) -> Follow:

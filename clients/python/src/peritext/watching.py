@@ -4,15 +4,16 @@ from __future__ import annotations
 
 import asyncio
 import contextlib
+import json
 import socket
 import threading
 import time
 from collections import deque
 from types import TracebackType
-from typing import Callable
+from typing import Any, Callable, Generic, Iterable, Literal, NamedTuple, TypeVar
 
 from .answers import NoAnswer, answer_of
-from .lines import Lines, line_of
+from .lines import Lines
 from .ports import HOST, PATIENCE, PAUSE
 from .refusals import Ended, NoDaemon, Refused
 from .seconds import retry_of
@@ -21,26 +22,33 @@ from .seconds import retry_of
 PART = 65_536
 # The refusal of a daemon that has no place.
 BUSY = 8
+# Seconds after which a connection is one that tells of all documents, though there is none of which it tells.
+MOMENT = 0.5
+# What is given by a watch, and the kind of a watch.
+Given = TypeVar("Given")
+Kind = TypeVar("Kind", bound="Watching[Any]")
 
 
-class Watch:
-    """The `rev`s of a document's settled operations, each above the one before: one at first, and one after each change, or after some at once.
+class Settled(NamedTuple):
+    """A document, and how many operations of it are settled."""
 
-    It is an iterator, for `for` and for `async for`, over a connection of its own, which a thread reads: whoever looks seldom is given the newest
-    number alone. It ends once it is closed. If the connection ends otherwise, it connects again as its session does, for `retry` seconds, and raises
-    `Ended` if there is nobody; `Refused` if the device failed (9).
-    """
+    doc: int
+    rev: int
 
-    def __init__(self, port: int, number: int, retry: float | None, tells_again: bool = False) -> None:
-        """With `tells_again` the first number of each connection is given, also if it isn't above the one before."""
+
+class Watching(Generic[Given]):
+    """What a daemon tells over a connection of its own, which a thread reads. Of each document the newest number alone is kept, until it is given."""
+
+    def __init__(self, port: int, request: dict[str, Any], retry: float | None, tells_again: bool = False) -> None:
         self._port = port
-        self._request = {"op": "watch", "doc": number}
+        self._request = request
         self._retry = retry_of(retry)
         self._tells_again = tells_again
-        # The newest number, and whether it is to be given.
-        self._newest = -1
-        self._is_news = False
-        # Over how many connections there was a number.
+        # The newest number of each document, and those whose number is to be given, in the order in which it came.
+        self._newest: dict[int, int] = {}
+        self._news: dict[int, None] = {}
+        # The documents of which this connection told, and over how many connections there was a number.
+        self._heard_of: set[int] = set()
         self.connections = 0
         # Why there is nothing more.
         self._end: Exception | None = None
@@ -53,21 +61,21 @@ class Watch:
         self._connection = self._connected(time.monotonic() + PATIENCE)
         threading.Thread(target=self._read, daemon=True).start()
 
-    def __iter__(self) -> Watch:
+    def __iter__(self: Kind) -> Kind:
         return self
 
-    def __next__(self) -> int:
+    def __next__(self) -> Given:
         with self._change:
             self._change.wait_for(self._is_due)
-            rev = self._taken()
-        if rev is None:
+            given = self._taken()
+        if given is None:
             raise StopIteration
-        return rev
+        return given
 
-    def __aiter__(self) -> Watch:
+    def __aiter__(self: Kind) -> Kind:
         return self
 
-    async def __anext__(self) -> int:
+    async def __anext__(self) -> Given:
         loop, woken = asyncio.get_running_loop(), asyncio.Event()
 
         def wake() -> None:
@@ -82,13 +90,13 @@ class Watch:
                 await woken.wait()
                 woken.clear()
             with self._change:
-                rev = self._taken()
+                given = self._taken()
         finally:
             with self._change:
                 self._wakes.discard(wake)
-        if rev is None:
+        if given is None:
             raise StopAsyncIteration
-        return rev
+        return given
 
     def close(self) -> None:
         """Ends it, and gives its place back."""
@@ -98,22 +106,26 @@ class Watch:
         with contextlib.suppress(OSError):
             self._connection.shutdown(socket.SHUT_RDWR)
 
-    def __enter__(self) -> Watch:
+    def __enter__(self: Kind) -> Kind:
         return self
 
     def __exit__(self, kind: type[BaseException] | None, error: BaseException | None, trace: TracebackType | None) -> None:
         self.close()
 
-    def _is_due(self) -> bool:
-        return self._is_closed or self._is_news or self._end is not None
+    def _given(self, number: int, rev: int) -> Given:
+        """What is given for the number of a document."""
+        raise NotImplementedError
 
-    def _taken(self) -> int | None:
-        """What is due: the newest number, or nothing if it was closed."""
+    def _is_due(self) -> bool:
+        return self._is_closed or bool(self._news) or self._end is not None
+
+    def _taken(self) -> Given | None:
+        """What is due: the newest number of a document, or nothing if it was closed."""
         if self._is_closed:
             return None
-        if self._is_news:
-            self._is_news = False
-            return self._newest
+        for number in self._news:
+            del self._news[number]
+            return self._given(number, self._newest[number])
         assert self._end is not None
         raise self._end
 
@@ -128,7 +140,7 @@ class Watch:
             while not self._is_closed:
                 with contextlib.suppress(NoAnswer, OSError):
                     while True:
-                        self._note(self._rev(self._connection))
+                        self._note(self._told(self._connection))
                 self._connect_again()
         except Exception as error:
             with self._change:
@@ -138,11 +150,16 @@ class Watch:
         finally:
             self._connection.close()
 
-    def _note(self, rev: int, is_first: bool = False) -> None:
+    def _note(self, told: Settled) -> None:
+        number, rev = told
+        newest, is_first = self._newest.get(number, -1), number not in self._heard_of
+        if is_first and rev < newest:
+            raise Ended(f"another file is served on port {self._port} now")
         with self._change:
-            self.connections += is_first
-            if rev > self._newest or (is_first and self._tells_again):
-                self._newest, self._is_news = rev, True
+            self.connections += not self._heard_of
+            self._heard_of.add(number)
+            if rev > newest or (is_first and self._tells_again):
+                self._newest[number], self._news[number] = rev, None
                 self._tell()
 
     def _connect_again(self) -> None:
@@ -171,16 +188,17 @@ class Watch:
                 connection.close()
 
     def _connected(self, until: float) -> socket.socket:
-        """A connection over which the document is watched, once its first number came."""
+        """A connection over which it is watched, once its first number came."""
         try:
             connection = socket.create_connection((HOST, self._port), timeout=PATIENCE)
         except OSError as error:
             raise NoDaemon(f"nobody listens on port {self._port} ({error.strerror or error})") from None
-        self._lines, self._heard = Lines(), deque()
+        self._lines, self._heard, self._heard_of = Lines(), deque(), set()
         try:
             connection.settimeout(max(min(until - time.monotonic(), PATIENCE), PAUSE))
-            connection.sendall(line_of(self._request))
-            first = self._rev(connection)
+            # It may name 1,024 documents, so it has no spaces.
+            connection.sendall(json.dumps(self._request, separators=(",", ":")).encode() + b"\n")
+            self._begin(connection)
             connection.settimeout(None)
         except (NoAnswer, OSError):
             connection.close()
@@ -188,14 +206,14 @@ class Watch:
         except BaseException:
             connection.close()
             raise
-        if first < self._newest:
-            connection.close()
-            raise Ended(f"another file is served on port {self._port} now")
-        self._note(first, is_first=True)
         return connection
 
-    def _rev(self, connection: socket.socket) -> int:
-        """The number of the next line. `Refused` if it is a refusal, `NoAnswer` if there is none."""
+    def _begin(self, connection: socket.socket) -> None:
+        """Hears the first number."""
+        self._note(self._told(connection))
+
+    def _told(self, connection: socket.socket) -> Settled:
+        """What the next line tells. `Refused` if it is a refusal, `NoAnswer` if there is none."""
         while not self._heard:
             part = connection.recv(PART)
             if not part:
@@ -204,4 +222,51 @@ class Watch:
         told = answer_of(self._heard.popleft(), self._request)
         if isinstance(told, Refused):
             raise told
-        return int(told["rev"])
+        return Settled(self._request.get("doc", told.get("doc")), told["rev"])
+
+
+class Watch(Watching[int]):
+    """The `rev`s of a document's settled operations, each above the one before: one at first, and one after each change, or after some at once.
+
+    It is an iterator, for `for` and for `async for`, over a connection of its own, which a thread reads: whoever looks seldom is given the newest
+    number alone. It ends once it is closed. If the connection ends otherwise, it connects again as its session does, for `retry` seconds, and raises
+    `Ended` if there is nobody; `Refused` if the device failed (9).
+    """
+
+    def __init__(self, port: int, number: int, retry: float | None, tells_again: bool = False) -> None:
+        """With `tells_again` the first number of each connection is given, also if it isn't above the one before."""
+        super().__init__(port, {"op": "watch", "doc": number}, retry, tells_again)
+
+    def _given(self, number: int, rev: int) -> int:
+        return rev
+
+
+class WatchMany(Watching[Settled]):
+    """The `rev`s of the settled operations of many documents, each above the one before of its document: one of each at first, and one after each of
+    its changes, or after some at once. `"all"` are those that were edited, and each new one.
+
+    It is an iterator over one connection, as a `Watch` is, and ends and fails as that does: whoever looks seldom is given the newest number of each
+    document alone, so that no more than these are kept.
+
+    >>> with connect(port) as session, session.watch_many([5, 6]) as told:
+    ...     before = sorted([next(told), next(told)])
+    ...     rev = session.document(6).insert(0, "told")
+    ...     next(told)
+    Settled(doc=6, rev=4)
+    """
+
+    def __init__(self, port: int, documents: Iterable[int] | Literal["all"], retry: float | None) -> None:
+        docs = "all" if documents == "all" else list(dict.fromkeys(documents))
+        super().__init__(port, {"op": "watch", "docs": docs}, retry)
+
+    def _given(self, number: int, rev: int) -> Settled:
+        return Settled(number, rev)
+
+    def _begin(self, connection: socket.socket) -> None:
+        if self._request["docs"] != "all":
+            super()._begin(connection)
+            return
+        connection.settimeout(MOMENT)
+        # A file that nobody edited has no document to tell of.
+        with contextlib.suppress(socket.timeout):
+            super()._begin(connection)

@@ -61,6 +61,19 @@ export class BoundText {
   }
 
   /**
+   * The stretches at which a text stands, or nothing if it was looked for in another text than the one that is shown.
+   * @param {string} sought
+   * @returns {Promise<{from: number, to: number}[] | undefined>}
+   */
+  async find(sought) {
+    const { places, rev } = await this.document.find(sought);
+    if (rev !== this.rev || !this.isSettled) return undefined;
+    const { doc } = this.#view.state;
+    const { length } = [...sought];
+    return places.map((place) => ({ from: positionOf(doc, place), to: positionOf(doc, place + length) }));
+  }
+
+  /**
    * Where places that last are in the text as it is now, or null for each that isn't in it.
    * @param {string[]} anchors
    * @returns {Promise<(number | null)[]>}

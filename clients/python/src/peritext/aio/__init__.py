@@ -20,7 +20,7 @@ later, once a lost connection is made anew: an edit with a `token` can be sent a
 """
 
 from .document import Action, Document
-from .following import Follow, Watch
+from .following import Follow, Watch, WatchMany
 from .opening import Opening
 from .session import Session, connect, init, open
 
@@ -31,6 +31,7 @@ __all__ = [
     "Opening",
     "Session",
     "Watch",
+    "WatchMany",
     "connect",
     "init",
     "open",

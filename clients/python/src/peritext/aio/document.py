@@ -7,7 +7,7 @@ from typing import Iterable
 from uuid import UUID
 
 from ..action import Collected, Fields, Lasting, Place
-from ..calls import Calls, Reading
+from ..calls import Calls, Found, Reading
 from ..changing import Changes
 from ..marks import Mark, Span
 from .following import Follow
@@ -70,6 +70,15 @@ class Document:
     async def spans(self) -> list[Span]:
         """The text in runs of equal marks."""
         return await self._runner.run(self._calls.spans())
+
+    async def export(self, form: str) -> str:
+        """The text as a page, with its marks: `html`, `markdown`, or `text` without them."""
+        return await self._runner.run(self._calls.export(form))
+
+    async def find(self, text: str, start: int = 0) -> Found:
+        """All places from `start` on at which a text of 1 to 256 characters stands, overlapping ones too, and the `rev` of the text in which it was
+        looked for. More than 1,024 go as several requests, and are `Stale` as `peritext.Document.find` says."""
+        return await self._runner.run(self._calls.find(text, start))
 
     async def changes(self, since: int) -> Changes:
         """What changed since a `rev`, for whoever has the text of then: steps that make the text of now of it, and the `rev` of now. `Stale` if

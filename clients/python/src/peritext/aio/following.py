@@ -6,7 +6,7 @@ import asyncio
 import contextlib
 import weakref
 from types import TracebackType
-from typing import Any, Callable, Generic, TypeVar
+from typing import Any, Callable, Generic, Iterable, Literal, TypeVar
 
 from .. import watching
 from ..calls import Calls
@@ -91,9 +91,23 @@ class Watch(Told[watching.Watch, int]):
     """
 
     def __init__(self, session: Session, number: int) -> None:
-        super().__init__(lambda: session.watch(number), watching.Watch.close)
+        super().__init__(lambda: session.watch(number), lambda watch: watch.close())
 
     async def _next(self, begun: watching.Watch) -> int:
+        return await begun.__anext__()
+
+
+class WatchMany(Told[watching.WatchMany, watching.Settled]):
+    """The `rev`s of the settled operations of many documents, each above the one before of its document.
+
+    It is an asynchronous iterator over one connection: whoever looks seldom is given the newest number of each document alone. It ends, goes on and
+    raises as a `Watch` does.
+    """
+
+    def __init__(self, session: Session, documents: Iterable[int] | Literal["all"]) -> None:
+        super().__init__(lambda: session.watch_many(documents), lambda watch: watch.close())
+
+    async def _next(self, begun: watching.WatchMany) -> watching.Settled:
         return await begun.__anext__()
 
 

@@ -3,7 +3,7 @@
 from __future__ import annotations
 
 from types import TracebackType
-from typing import Any, Callable
+from typing import Any, Callable, Iterable, Literal
 from uuid import UUID
 
 from .. import daemon
@@ -15,7 +15,7 @@ from ..peers import Connected, connected_of
 from ..session import Session as Threaded
 from ..silence import TIMEOUT
 from .document import Document
-from .following import Follow, Watch
+from .following import Follow, Watch, WatchMany
 from .opening import Opening, in_thread
 from .running import Runner
 
@@ -39,6 +39,16 @@ class Session:
         `io.UnsupportedOperation` in a session over a file.
         """
         return Watch(self._runner.session, document)
+
+    def watch_many(self, documents: Iterable[int] | Literal["all"]) -> WatchMany:
+        """Tells of the changes of many documents, 1 to 1,024 of them or `"all"`, over one connection, and takes one place more.
+
+            async with session.watch_many("all") as told:
+                async for document, rev in told: ...
+
+        `io.UnsupportedOperation` in a session over a file.
+        """
+        return WatchMany(self._runner.session, documents)
 
     def follow(self, document: int) -> Follow:
         """Tells a document as it changes, as `Document.follow` does."""

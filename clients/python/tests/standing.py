@@ -1,0 +1,96 @@
+"""A daemon in memory, for what the program may not know yet: it stands in for it over sockets, with texts without marks."""
+
+import json
+import socket
+import threading
+
+from fake import FakeDaemon
+
+# How many places one answer tells.
+SOME = 1_024
+
+
+class StandIn(FakeDaemon):
+    """Answers sessions and watches of many documents. Before each answer `before` is called with the request."""
+
+    def __init__(self):
+        self.texts, self.revs = {}, {}
+        self.before = lambda request: None
+        self._change = threading.Condition()
+        self._goes = True
+        super().__init__(None)
+
+    def insert(self, doc, at, text):
+        with self._change:
+            shown = self.texts.get(doc, "")
+            self.texts[doc], self.revs[doc] = shown[:at] + text + shown[at:], self.revs.get(doc, 0) + len(text)
+            self._change.notify_all()
+            return {"rev": self.revs[doc]}
+
+    def _greet(self, connection, *_):
+        with connection, connection.makefile("rb") as lines:
+            try:
+                for line in lines:
+                    request = json.loads(line)
+                    if request["op"] == "watch":
+                        return self._watch(connection, request["docs"])
+                    self._say(connection, self._told(request))
+                connection.shutdown(socket.SHUT_WR)
+            except OSError:
+                pass
+
+    def _say(self, connection, told):
+        connection.sendall(json.dumps({"ok": "code" not in told, **told}).encode() + b"\n")
+
+    def _watch(self, connection, docs):
+        threading.Thread(target=self._ends, args=(connection,), daemon=True).start()
+        last = {}
+        while self._goes:
+            with self._change:
+                news = {doc: self.revs.get(doc, 0) for doc in (sorted(self.revs) if docs == "all" else docs)}
+                if news == last:
+                    self._change.wait(0.1)
+            for doc, rev in news.items():
+                if last.get(doc) != rev:
+                    self._say(connection, {"doc": doc, "rev": rev})
+            last = news
+
+    def _ends(self, connection):
+        """A watcher says nothing more: whatever comes ends it."""
+        try:
+            connection.recv(1)
+            connection.shutdown(socket.SHUT_RDWR)
+        except OSError:
+            pass
+
+    def _told(self, request):
+        self.before(request)
+        op, doc = request["op"], request.get("doc")
+        text, rev = self.texts.get(doc, ""), self.revs.get(doc, 0)
+        if op == "status":
+            return {"applied": 0, "settled": 0, "state": "open"}
+        if op in ("insert", "edits"):
+            return self._edited(request)
+        if op == "text":
+            return {"rev": rev, "text": text}
+        if op == "find":
+            if not 1 <= len(request["text"]) <= 256:
+                return {"code": 4, "error": "field"}
+            found = [at for at in range(request.get("from", 0), len(text)) if text.startswith(request["text"], at)]
+            return {"rev": rev, "places": found[:SOME]}
+        if op == "export" and request["to"] in ("text", "markdown", "html"):
+            return {"rev": rev, "text": f"<p>{text}</p>\n" if request["to"] == "html" else text}
+        if op == "export":
+            return {"code": 4, "error": "field"}
+        return {"code": 3, "error": "request"}
+
+    def _edited(self, request):
+        """Makes inserts alone."""
+        doc = request["doc"]
+        if request.get("rev", self.revs.get(doc, 0)) != self.revs.get(doc, 0):
+            return {"code": 6, "error": "stale"}
+        return [self.insert(doc, edit["at"], edit["text"]) for edit in request.get("edits", [request])][-1]
+
+    def close(self):
+        self._goes = False
+        super().close()
