@@ -4,6 +4,7 @@ import itertools
 import json
 import os
 import random
+import select
 import signal
 import socket
 import subprocess
@@ -14,6 +15,8 @@ from program import REPLICA, new_file, run
 HOST = "127.0.0.1"
 # Seconds until something that is due has to have come.
 PATIENCE = 20
+# What a daemon prints with `--ready` once its ports listen.
+READY = b'{"ok":true}\n'
 
 
 # Ports below those that the system gives to connections by itself, from one by chance on.
@@ -98,14 +101,20 @@ class Daemon:
         words = [self.program, "serve", self.name, "--sessions", str(self.sessions), "--peers", str(self.peers)]
         return words + ["--link", str(self.link)] if self.link else words
 
-    def run_it(self):
+    def run_it(self, *more):
         pipes = {"stdin": subprocess.DEVNULL, "stdout": subprocess.PIPE, "stderr": subprocess.PIPE}
-        self.run = subprocess.Popen(self.words(), **pipes, **self.how)
+        self.run = subprocess.Popen([*self.words(), *more], **pipes, **self.how)
 
     def start(self):
-        self.run_it()
-        # A connection that only probes gives its place back.
-        Talk(self.sessions).close()
+        if "env" in self.how:
+            # What is loaded before the program there may note each of its calls, or end it at one. A connection that only probes gives its place back.
+            self.run_it()
+            Talk(self.sessions).close()
+            return
+        self.run_it("--ready")
+        is_there, _, _ = select.select([self.run.stdout], [], [], PATIENCE)
+        if not is_there or self.run.stdout.readline() != READY:
+            raise TimeoutError(f"{self.name} isn't served")
 
     def talk(self):
         return Talk(self.sessions)

@@ -85,6 +85,8 @@ def check_linked(checks, program):
     checks.same("the link that was joined", [(it["link"], it["way"], it["port"], it["replica"]) for it in up], [("0", "joined", str(first.peers), REPLICA)])
     checks.same("sessions that came", len(only(came, "session_up")), len(only(came, "session_down")))
     checks.holds("each session has an end", only(came, "session_up") and all(it["code"] == "0" for it in only(came, "session_down")))
+    checks.same("by which door they came", {it["door"] for it in only(came + joined, "session_up")}, {"sessions"})
+    checks.same("they are no WebSockets", [it for it in came + joined if "close" in it or "origin" in it], [])
     checks.same("lines that are no events", [it for it in came + joined if isinstance(it, str)], [])
     again = Logging(program, "first")
     _, ended = again.stop()

@@ -5,9 +5,11 @@ import sys
 import tempfile
 import time
 
+import asking
 import at_places
 import backups
 import changes
+import checked
 import crafted
 import damage
 import device_calls
@@ -17,6 +19,7 @@ import edits
 import ending
 import examples
 import exports
+import finding
 import formats
 import full_disk
 import idle_links
@@ -45,6 +48,7 @@ import terminal
 import tokens
 import typed_memory
 import watching
+import watching_several
 import web_pages
 import web_sockets
 import words
@@ -53,9 +57,10 @@ from program import Checks
 
 LIMIT = 600
 GROUPS = (
-    words, sentences, documents, terminal, examples, exports, long_texts, streams, locks, lost_files, full_disk, ending, crafted, formats, long_runs,
-    damage, each_byte, kills, device_calls, tokens, typed_memory, memory, serving, served_limits, journal, web_pages, last_place, peers, places, changes, edits,
-    at_places, watching, web_sockets, parting, put_back, backups, parted_files, idle_links, rude, noise, worst, session_memory, renewal,
+    words, sentences, documents, terminal, examples, exports, checked, long_texts, streams, locks, lost_files, full_disk, ending, crafted, formats, long_runs,
+    damage, each_byte, kills, device_calls, tokens, typed_memory, memory, serving, served_limits, asking, journal, web_pages, last_place, peers, places, changes,
+    edits, at_places, finding, watching, watching_several, web_sockets, parting, put_back, backups, parted_files, idle_links, rude, noise, worst,
+    session_memory, renewal,
 )
 
 

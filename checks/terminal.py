@@ -110,6 +110,7 @@ def check_ports(checks, program):
     same(checks, program, ("serve", "served", *ports, "--link", str(free)), 70, f"port {free}", "NoPeer")
     same(checks, program, ("serve", "served", *ports, "--link", str(peers)), 70, f"port {peers}", "OwnPort")
     same(checks, program, ("serve", "none", *ports), 54, "none", "NotThere")
+    same(checks, program, ("ask", str(free), "{}"), 70, f"port {free}", "NoDaemon")
 
 
 GREETING = (

@@ -172,7 +172,7 @@ def check_asked(checks, daemon):
     talk.close()
     others = {
         "no document": line(op="watch"), "document 0": watch(0), "another field": line(op="watch", doc=1, rev=1), "a text": line(op="watch", doc="1"),
-        "a long line": b" " * 5_000 + watch(),
+        "a long line": b" " * 16_384 + watch(),
     }
     for what, data in others.items():
         talk = daemon.talk()

@@ -359,11 +359,20 @@ def check_told(checks, program):
     made = daemon.open()
     made.ask(STATUS)
     made.close()
+    for origin, given in ((PAGE, frame(CLOSE, b"\x03\xe8")), (OTHER, frame(CLOSE, b"")), (None, frame(BINARY, b"a"))):
+        made = daemon.open(origin=origin)
+        made.send(given)
+        made.answer()
+        made.close()
     _, (_, _, faults) = daemon.stop()
     told = events(faults)
     checks.same("where it listens", told[0].get("web"), str(daemon.web))
     checks.same("one that may not come in", [it["reason"] for it in only(told, "session_refused") if "origin" in it["reason"]], ["an origin that isn't named"])
-    checks.holds("one that came in", len(only(told, "session_up")) >= 1)
+    checks.same("at which door", {it["door"] for it in only(told, "session_refused")}, {"web"})
+    up = [(it["session"], it.get("origin")) for it in only(told, "session_up") if it["door"] == "web"]
+    checks.same("those that came in, and from where", [origin for _, origin in up], [None, PAGE, OTHER, None])
+    ends = {it["session"]: it.get("close") for it in only(told, "session_down")}
+    checks.same("how each ended", [ends[session] for session, _ in up], ["1006", "1000", "1005", "1003"])
 
 
 def check_words(checks, program):

@@ -14,14 +14,16 @@ LEFT_OUT = "_tests"
 ROWS = (
     (("the program", "#e3f2fd", "edit_shell serve_threads store_orders command_words program_commands command_syntax"),),
     (
-        ("sessions", "#e8f5e9", "shared_desk session_threads web_guests web_lines watch_lines first_bytes session_lines"),
+        ("sessions", "#e8f5e9", "shared_desk session_threads web_guests web_lines watch_lines first_bytes daemon_asking session_lines"),
         ("links", "#f1f8e9", "link_threads link_speaker causal_sync event_journal"),
-        ("what is shown and told", "#f9fbe7", "file_listing span_export"),
     ),
-    (("a hub: what a lock guards, and the part that commits", "#fff8e1", "shared_hub locked_replica hub_parts recovery pass_books"),),
+    (
+        ("a hub: what a lock guards, and the part that commits", "#fff8e1", "shared_hub locked_replica hub_parts recovery pass_books"),
+        ("what is shown and told", "#f9fbe7", "file_listing span_export text_search"),
+    ),
     (
         ("a replica and its documents", "#fff3e0", "replica_core doc_core span_flatten mark_anchors char_sequence comment_marks edit_tokens placed_edits"),
-        ("the store in a file", "#fbe9e7", "group_commit root_slots page_file disk_trait"),
+        ("the store in a file", "#fbe9e7", "group_commit root_reports root_slots page_file disk_trait"),
     ),
     (
         ("operations as bytes", "#f3e5f5", "stream_list run_list op_list piece_codec change_codec op_pieces"),

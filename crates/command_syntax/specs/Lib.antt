@@ -1,2 +1,2 @@
+pub mod Few
 pub mod Values
-pub mod Web

@@ -4,9 +4,12 @@
 //! it.
 #![tactic(auto)]
 
+mod ask_order;
 mod bad_port;
+mod check_order;
 mod dump_order;
 mod export_order;
+mod few_texts;
 mod list_order;
 mod order;
 mod serve_order;
@@ -14,12 +17,15 @@ mod store_order;
 mod values;
 mod web_order;
 
+pub use ask_order::AskOrder;
 pub use bad_port::BadPort;
+pub use check_order::CheckOrder;
 pub use dump_order::DumpOrder;
 pub use export_order::ExportOrder;
+pub use few_texts::FewTexts;
 pub use list_order::ListOrder;
 pub use order::Order;
 pub use serve_order::ServeOrder;
 pub use store_order::StoreOrder;
 pub use values::{doc, form, optional_port, port, replica};
-pub use web_order::{Origins, WebOrder};
+pub use web_order::WebOrder;

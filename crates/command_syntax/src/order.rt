@@ -1,4 +1,6 @@
 //! What a command line asks for.
+use crate::ask_order::AskOrder;
+use crate::check_order::CheckOrder;
 use crate::dump_order::DumpOrder;
 use crate::export_order::ExportOrder;
 use crate::list_order::ListOrder;
@@ -14,8 +16,12 @@ pub enum Order<'a> {
     Dump(DumpOrder<'a>),
     /// What is told of all documents of a file, in the same way.
     List(ListOrder<'a>),
+    /// What the opening of a file finds, in the same way.
+    Check(CheckOrder<'a>),
     /// A document of a file for other programs, in the same way.
     Export(ExportOrder<'a>),
     /// What is done over a file and sockets.
     Serve(ServeOrder<'a>),
+    /// What is asked of a daemon, and the answers.
+    Ask(AskOrder<'a>),
 }

@@ -17,4 +17,6 @@ pub struct ServeOrder<'a> {
     pub ends_on_failure: bool,
     /// Whether each event is written to standard error.
     pub logs: bool,
+    /// Whether a line is printed once all its ports listen.
+    pub tells_ready: bool,
 }

@@ -5,7 +5,7 @@ ghost use Rattle.clap.specs.Words.{subcommand_of, subcommand_rows_of};
 ghost use Rattle.command_words.specs.declared.order_fault.OrderFault.TheVariants.{Field, Port};
 ghost use Rattle.program_commands.specs.Program.{program};
 ghost use Rattle.command_words.specs.Asked.{texts, meant, asked, asked_of, init_of, edit_of, dump_of, serve_of};
-ghost use Rattle.command_words.specs.Asked.{list_of, export_of, meant_of_web, web_at};
+ghost use Rattle.command_words.specs.Asked.{list_of, check_of, export_of, ask_of, meant_of_web, web_at};
 ghost use Rattle.command_words.specs.Asked.{told, bad_port_of, bad_port_at, is_flag_given};
 ghost use Rattle.command_words.specs.Faults.{RefusedBy, BreaksRule, TellsOf};
 
@@ -13,8 +13,8 @@ use crate::order_fault::OrderFault;
 use clap::ArgMatches;
 use clap::error::ErrorKind;
 use command_syntax::{
-    BadPort, DumpOrder, ExportOrder, ListOrder, Order, Origins, ServeOrder, StoreOrder, WebOrder,
-    doc, form, optional_port, port, replica,
+    AskOrder, BadPort, CheckOrder, DumpOrder, ExportOrder, FewTexts, ListOrder, Order, ServeOrder,
+    StoreOrder, WebOrder, doc, form, optional_port, port, replica,
 };
 use program_commands::commands;
 use std::alloc::Global;
@@ -66,8 +66,10 @@ fn command_order<'a>(name: &str, matches: &ArgMatches<'a>) -> Option<Order<'a>>
         "edit" => edit(matches),
         "dump" => dump(matches),
         "list" => list(matches),
+        "check" => check(matches),
         "export" => export(matches),
         "serve" => serve(matches),
+        "ask" => ask(matches),
         _ => None,
     }
 }
@@ -106,6 +108,14 @@ fn list<'a>(matches: &ArgMatches<'a>) -> Option<Order<'a>>
     Some(Order::List(ListOrder { file }))
 }
 
+/// The order of a `check`.
+fn check<'a>(matches: &ArgMatches<'a>) -> Option<Order<'a>>
+    ensures { option_map meant result ≡ check_of (rows_of (found_of matches.now)) }
+{
+    let file = value(matches, "FILE")?;
+    Some(Order::Check(CheckOrder { file }))
+}
+
 /// The order of an `export`.
 fn export<'a>(matches: &ArgMatches<'a>) -> Option<Order<'a>>
     ensures { option_map meant result ≡ export_of (rows_of (found_of matches.now)) }
@@ -134,7 +144,17 @@ fn serve<'a>(matches: &ArgMatches<'a>) -> Option<Order<'a>>
         web,
         ends_on_failure,
         logs: is_given(matches, "log"),
+        tells_ready: is_given(matches, "ready"),
     }))
+}
+
+/// The order of an `ask`.
+fn ask<'a>(matches: &ArgMatches<'a>) -> Option<Order<'a>>
+    ensures { option_map meant result ≡ ask_of (rows_of (found_of matches.now)) }
+{
+    let port = port(value(matches, "PORT")?)?;
+    let lines = FewTexts::new(values(matches, "LINE").unwrap_or(&[]))?;
+    Some(Order::Ask(AskOrder { port, lines }))
 }
 
 /// What a `serve` names of web pages, if it names any.
@@ -147,7 +167,7 @@ fn web<'a>(matches: &ArgMatches<'a>) -> Option<Option<WebOrder<'a>>>
         return if named.is_none() { Some(None) } else { None };
     };
     let port = port(word)?;
-    let origins = Origins::new(named.unwrap_or(&[]))?;
+    let origins = FewTexts::new(named.unwrap_or(&[]))?;
     Some(Some(WebOrder { port, origins }))
 }
 
@@ -175,13 +195,14 @@ fn bad_value<'a>(matches: &ArgMatches<'a>) -> OrderFault<'a>
 fn bad_port<'a>(matches: &ArgMatches<'a>) -> Option<BadPort<'a>>
     ensures { option_map told result ≡ bad_port_of (rows_of (found_of matches.now)) }
 {
-    bad_port_at(matches, "sessions")
+    bad_port_at(matches, "PORT")
+        .or(bad_port_at(matches, "sessions"))
         .or(bad_port_at(matches, "peers"))
         .or(bad_port_at(matches, "link"))
         .or(bad_port_at(matches, "web"))
 }
 
-/// The port that this option has, where it breaks its rule.
+/// The port that this option or argument has, where it breaks its rule.
 fn bad_port_at<'a>(matches: &ArgMatches<'a>, option: &'a str) -> Option<BadPort<'a>>
     ensures { option_map told result ≡ bad_port_at option.now (rows_of (found_of matches.now)) }
 {

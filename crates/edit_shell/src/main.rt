@@ -1,6 +1,7 @@
 //! The program `peritext`.
 #![tactic(auto)]
 
+mod asking;
 mod error_way;
 mod greeting;
 mod held;

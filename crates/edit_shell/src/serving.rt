@@ -21,27 +21,32 @@ use std::rt::{Clock, Files};
 use std::sync::Wait;
 use std::thread;
 use std::thread::Threads;
-use store_orders::Fault;
+use store_orders::{Fault, print};
+
+/// What is printed once all ports listen.
+const READY: &[u8] = b"{\"ok\":true}\n";
 
 /// Serves the sessions and the peers of a file. It tells of itself on standard error: all events
 /// with `--log`, a start that failed too; on a terminal else where it listens and its end; and else
-/// nothing. The thread that hands its lines on has ended too when this returns.
+/// nothing. With `--ready` it prints a line once all ports listen. The thread that hands its lines
+/// on has ended too when this returns.
 pub fn serve<
     'a,
     R: Files<File = File>
+        + Net<Listener = TcpListener, Stream = TcpStream>
+        + AllocGlobal
         + Clock
         + Wait
         + Threads
-        + Sync
-        + Net<Listener = TcpListener, Stream = TcpStream>
-        + AllocGlobal,
+        + Sync,
+    W: Write,
     F: Write + IsTerminal + Copy + Send + Drop + 'static,
->(rt: &R, order: ServeOrder<'a>, faults: &F) -> Result<(), Refused<'a>> {
+>(rt: &R, order: ServeOrder<'a>, output: &mut W, faults: &F) -> Result<(), Refused<'a>> {
     let Some(telling) = telling(order, faults) else {
-        return serve_order(rt, order, None).end;
+        return serve_order(rt, order, None, output).end;
     };
     let journal = Journal::new(rt.alloc(), telling);
-    serve_and_tell(rt, order, &journal, *faults)
+    serve_and_tell(rt, order, &journal, output, *faults)
 }
 
 /// What is told of a daemon, if anything is.
@@ -65,12 +70,19 @@ fn serve_and_tell<
         + Sync
         + Net<Listener = TcpListener, Stream = TcpStream>
         + AllocGlobal,
+    W: Write,
     F: Write + Send + Drop + 'static,
->(rt: &R, order: ServeOrder<'a>, journal: &Journal, errors: F) -> Result<(), Refused<'a>> {
+>(
+    rt: &R,
+    order: ServeOrder<'a>,
+    journal: &Journal,
+    output: &mut W,
+    errors: F,
+) -> Result<(), Refused<'a>> {
     thread::scope(thread::scope_env(), rt, move |scope| {
         // Where there is no thread, nothing is told.
         let _ = scope.spawn(move || hand_on(rt, journal, errors));
-        let ran = serve_order(rt, order, Some(journal));
+        let ran = serve_order(rt, order, Some(journal), output);
         if order.logs || ran.has_listened {
             tell_end(rt, journal, ran.end);
         }
@@ -124,7 +136,8 @@ fn serve_order<
         + Sync
         + Net<Listener = TcpListener, Stream = TcpStream>
         + AllocGlobal,
->(rt: &R, order: ServeOrder<'a>, journal: Option<&'b Journal>) -> Ran<'a> {
+    W: Write,
+>(rt: &R, order: ServeOrder<'a>, journal: Option<&'b Journal>, output: &mut W) -> Ran<'a> {
     let origins = match origins(rt.alloc(), order) {
         Ok(origins) => origins,
         Err(refused) => return Ran::not(refused),
@@ -141,7 +154,7 @@ fn serve_order<
         },
         Err(refused) => return Ran::not(refused),
     };
-    let end = serve_opened(rt, order, parts, sockets);
+    let end = serve_opened(rt, order, parts, sockets, output);
     Ran {
         end: of_file(end, order.file, Purpose::Writing),
         has_listened: true,
@@ -164,7 +177,8 @@ fn open_file<R: Files<File = File> + AllocGlobal>(
     }
 }
 
-/// Serves a file that is open over its sockets, and tells of its beginning.
+/// Serves a file that is open over its sockets, and tells of its beginning. `Stream` (71) where it
+/// can't print that it is ready.
 fn serve_opened<
     'a,
     R: Clock
@@ -173,16 +187,21 @@ fn serve_opened<
         + Sync
         + Net<Listener = TcpListener, Stream = TcpStream>
         + AllocGlobal,
+    W: Write,
 >(
     rt: &'a R,
     order: ServeOrder<'_>,
     parts: Parts<FileDisk>,
     sockets: Sockets<'a>,
+    output: &mut W,
 ) -> Result<(), Fault>
     requires { IsOpened parts.locked parts.flusher }
 {
     if let Some(journal) = sockets.journal {
         tell_listening(rt, order, &parts, journal);
+    }
+    if order.tells_ready {
+        print(READY, output)?;
     }
     match serve_on(rt, rt.alloc(), parts, sockets, &NoCheckpoint) {
         Ok(served) => end_of(&served),

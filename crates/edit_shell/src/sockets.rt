@@ -8,7 +8,7 @@ use std::net::{Net, TcpListener, TcpStream};
 use store_orders::{Fault, Sentence};
 
 /// Where sockets are.
-const HOST: &str = "127.0.0.1";
+pub const HOST: &str = "127.0.0.1";
 
 /// Opens the sockets that an order names, in its order, and joins its peer, which isn't the daemon
 /// itself. Nothing is told, and no web page may come in so far. `Socket` (70) where one of them

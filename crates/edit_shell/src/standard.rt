@@ -1,5 +1,6 @@
 //! The program over its command line, files and standard streams.
 
+use crate::asking::ask;
 use crate::held::hold_closed_streams;
 use crate::looking::Purpose;
 use crate::refusing::{ended, of_file};
@@ -14,7 +15,7 @@ use std::rt::{Clock, Env, Files};
 use std::sync::Wait;
 use std::thread::Threads;
 use std::{env, io};
-use store_orders::{Ended, Fault, dump, export_from, list, perform};
+use store_orders::{Ended, Fault, check, dump, export_from, list, perform};
 
 /// The bytes of a store in memory.
 const ROOM: usize = 1_048_576;
@@ -182,14 +183,19 @@ fn run_held<
             let end = list(rt, *order, output);
             tell(rt, end, order.file, Purpose::Reading, faults)
         }
+        Order::Check(order) => {
+            let end = check(rt, *order, output);
+            tell(rt, end, order.file, Purpose::Reading, faults)
+        }
         Order::Export(order) => {
             let end = export_from(rt, *order, output);
             tell(rt, end, order.file, Purpose::Reading, faults)
         }
         Order::Serve(order) => {
-            let end = serve(rt, *order, &*faults);
+            let end = serve(rt, *order, output, &*faults);
             ended(rt, end, faults)
         }
+        Order::Ask(order) => ask(rt, *order, output, faults),
     }
 }
 

@@ -1,5 +1,6 @@
 //! What a daemon tells of itself, each as a line.
 use crate::cause::Cause;
+use crate::entrance::Entrance;
 use crate::quoted::Quoted;
 use crate::reason::Reason;
 use op_ids::ReplicaId;
@@ -41,14 +42,18 @@ pub enum Event<'a> {
     /// A session was let in, with this number.
     SessionUp {
         session: u64,
+        door: Entrance<'a>,
     },
     /// A session ended.
     SessionDown {
         session: u64,
         reason: Reason<'a>,
+        /// The code with which its WebSocket was closed, if it had one.
+        close: Option<u16>,
     },
-    /// A session was turned away.
+    /// A session was turned away at this door.
     SessionRefused {
+        door: Entrance<'a>,
         reason: Reason<'a>,
     },
     /// Another replica has greeted over a link.
@@ -99,11 +104,17 @@ impl<'a> Display for Event<'a> {
     fn fmt<W: fmt::Write>(&self, f: &mut Formatter<W>) -> fmt::Result {
         match self {
             Event::Listening { .. } => fmt_listening(self, f),
-            Event::SessionUp { session } => write!(f, "event=session_up session={session}"),
-            Event::SessionDown { session, reason } => {
-                write!(f, "event=session_down session={session} {reason}")
+            Event::SessionUp { session, door } => {
+                write!(f, "event=session_up session={session} {door}")
             }
-            Event::SessionRefused { reason } => write!(f, "event=session_refused {reason}"),
+            Event::SessionDown {
+                session,
+                reason,
+                close,
+            } => fmt_down(*session, *reason, *close, f),
+            Event::SessionRefused { door, reason } => {
+                write!(f, "event=session_refused {door} {reason}")
+            }
             Event::LinkUp { place, replica } => {
                 write!(f, "event=link_up {place} replica={}", uuid_of(*replica))
             }
@@ -144,6 +155,20 @@ fn fmt_listening<W: fmt::Write>(event: &Event<'_>, f: &mut Formatter<W>) -> fmt:
         write!(f, "operations={operations} documents={documents}")?;
     }
     Ok(())
+}
+
+/// Writes how a session ended.
+fn fmt_down<W: fmt::Write>(
+    session: u64,
+    reason: Reason<'_>,
+    close: Option<u16>,
+    f: &mut Formatter<W>,
+) -> fmt::Result {
+    write!(f, "event=session_down session={session} {reason}")?;
+    match close {
+        Some(close) => write!(f, " close={close}"),
+        None => Ok(()),
+    }
 }
 
 /// Writes that one of both files is a copy.

@@ -5,6 +5,7 @@
 #![tactic(auto)]
 
 mod cause;
+mod entrance;
 mod event;
 mod journal;
 mod line_writer;
@@ -12,6 +13,7 @@ mod quoted;
 mod reason;
 
 pub use cause::{About, Cause};
+pub use entrance::Entrance;
 pub use event::{Event, LinkPlace};
 pub use journal::{Journal, Telling};
 pub use quoted::Quoted;

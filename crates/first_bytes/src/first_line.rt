@@ -1,13 +1,13 @@
 //! The first line of a session, where it is looked at before the session is served.
 
-use session_lines::{Command, read_command, watch_line};
+use session_lines::{Command, read_command};
 use std::alloc::Global;
 use std::io;
 use std::io::Read;
 use std::marker::Model;
 
 /// As many bytes as a session reads at once: so what came in one piece is still served in one, also
-/// if the daemon is about to end. A longer line is no request for the status, a stop or a watch.
+/// if the daemon is about to end. A longer line is no request for the status or a stop here.
 const ROOM: usize = 4_096;
 
 /// What was read of a session before it is served: nothing, or its first line and perhaps more. As
@@ -86,19 +86,6 @@ impl FirstLine {
                 read_command(alloc, line),
                 Ok(Command::Status | Command::Stop)
             ),
-            None => false,
-        }
-    }
-
-    /// The document of whose changes it asks to be told, if it does.
-    pub fn watched(&self, alloc: Global) -> Option<u32> {
-        watch_line(alloc, self.line()?).ok()
-    }
-
-    /// Whether more was read than the line.
-    pub fn is_followed(&self) -> bool {
-        match self.line() {
-            Some(line) => self.as_slice().len() > line.len() + 1,
             None => false,
         }
     }

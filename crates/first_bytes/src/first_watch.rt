@@ -1,38 +1,40 @@
-//! A reader that ends where the first line asks to be told of a document's changes.
+//! A reader that ends where the first line asks to be told of changes.
 
-use crate::first_line::FirstLine;
+use crate::watch_front::WatchFront;
+use session_lines::Watching;
 use std::alloc::Global;
-use std::io;
 use std::io::Read;
+use std::{io, mem};
 
-/// A reader that ends where its first line asks to be told of a document's changes: nothing is
-/// handed on then, so no line is served. Anything else is handed on byte for byte. The first line
-/// is held back until it is whole, or longer than such a request is: no line is served sooner than
-/// that, so nobody waits longer.
+/// A reader that ends where its first line asks to be told of changes: nothing is handed on then,
+/// so no line is served. Anything else is handed on byte for byte. The first line is held back
+/// until it is whole, or longer than such a request is: no line is served sooner than that, so
+/// nobody waits longer.
 #[derive(Drop)]
 pub struct FirstWatch<S: Read> {
-    alloc: Global,
     reader: S,
-    first: FirstLine,
+    first: WatchFront,
     look: Look,
 }
 
 /// What the first line was found to be.
-#[derive(Clone, Copy, Debug, Drop, PartialEq, Eq)]
+#[derive(Drop)]
 enum Look {
     /// It isn't there yet.
     NotYet,
     /// A request to be told of changes.
     Watch(Watch),
+    /// Such a request, of which somebody else takes care.
+    Taken,
     /// Anything else, or there was no memory to read it.
     Other,
 }
 
-/// A request to be told of a document's changes.
-#[derive(Clone, Copy, Debug, Drop, PartialEq, Eq)]
+/// A request to be told of changes.
+#[derive(Debug, Drop)]
 pub struct Watch {
-    pub doc: u32,
-    /// Whether more came right behind it: that ends it.
+    pub watching: Watching,
+    /// Whether more came right after it: that ends it.
     pub is_followed: bool,
 }
 
@@ -40,18 +42,25 @@ impl<S: Read> FirstWatch<S> {
     /// A reader of which nothing was read so far.
     pub fn new(alloc: Global, reader: S) -> FirstWatch<S> {
         FirstWatch {
-            alloc,
             reader,
-            first: FirstLine::new(),
+            first: WatchFront::new(alloc),
             look: Look::NotYet,
         }
     }
 
-    /// What was asked, where the reader ended for that.
-    pub fn watch(&self) -> Option<Watch> {
-        match self.look {
+    /// Whether the reader ended because its first line asks to be told of changes.
+    pub fn is_watch(&self) -> bool {
+        matches!(self.look, Look::Watch(_) | Look::Taken)
+    }
+
+    /// What was asked, the first time after the reader ended for that.
+    pub fn take_watch(&mut self) -> Option<Watch> {
+        if !self.is_watch() {
+            return None;
+        }
+        match mem::replace(&mut self.look, Look::Taken) {
             Look::Watch(watch) => Some(watch),
-            Look::NotYet | Look::Other => None,
+            Look::NotYet | Look::Taken | Look::Other => None,
         }
     }
 
@@ -60,28 +69,34 @@ impl<S: Read> FirstWatch<S> {
         &mut self.reader
     }
 
-    /// What the first line is, once it was read.
-    fn look(&mut self) -> io::Result<Look> {
-        if self.look == Look::NotYet {
-            self.first.wait_for(&mut self.reader)?;
-            self.look = match self.first.watched(self.alloc) {
-                Some(doc) => Look::Watch(Watch {
-                    doc,
-                    is_followed: self.first.is_followed(),
-                }),
-                None => Look::Other,
-            };
+    /// Looks what the first line is, once it was read.
+    fn look(&mut self) -> io::Result<()> {
+        if !matches!(self.look, Look::NotYet) {
+            return Ok(());
         }
-        Ok(self.look)
+        self.first.wait_for(&mut self.reader)?;
+        self.look = match self.first.watched() {
+            Some(watching) => {
+                let is_followed = self.first.is_followed();
+                self.first.clear();
+                Look::Watch(Watch {
+                    watching,
+                    is_followed,
+                })
+            }
+            None => Look::Other,
+        };
+        Ok(())
     }
 }
 
 impl<S: Read> Read for FirstWatch<S> {
     fn read(&mut self, buf: &mut [u8]) -> io::Result<usize> {
-        if let Look::Watch(_) = self.look()? {
+        self.look()?;
+        if self.is_watch() {
             return Ok(0);
         }
-        if self.first.as_slice().is_empty() {
+        if self.first.is_handed_on() {
             return self.reader.read(buf);
         }
         self.first.read(buf)

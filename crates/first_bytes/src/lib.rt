@@ -9,6 +9,7 @@ mod first_look;
 mod first_watch;
 mod front;
 mod waits;
+mod watch_front;
 
 pub use first_line::FirstLine;
 pub use first_look::FirstLook;

@@ -28,7 +28,9 @@ impl Desk for Counter {
             Command::Spans { .. }
             | Command::Changes { .. }
             | Command::Anchors { .. }
-            | Command::Places { .. } => Answer::Done,
+            | Command::Places { .. }
+            | Command::Find { .. }
+            | Command::Export { .. } => Answer::Done,
             Command::Status | Command::Peers => Answer::Edited { rev: self.asked },
             Command::Stop => Answer::Stopped,
         }

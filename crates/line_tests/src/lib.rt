@@ -2,6 +2,8 @@
 #![tactic(auto)]
 
 #[cfg(test)]
+mod asking_tests;
+#[cfg(test)]
 mod edits_tests;
 #[cfg(test)]
 mod first_line_tests;
@@ -18,11 +20,15 @@ mod request_tests;
 #[cfg(test)]
 mod saying_tests;
 #[cfg(test)]
+mod several_tests;
+#[cfg(test)]
 mod stream_tests;
 #[cfg(test)]
 mod token_tests;
 #[cfg(test)]
 mod watch_tests;
+#[cfg(test)]
+mod web_from_tests;
 #[cfg(test)]
 mod web_guest_tests;
 #[cfg(test)]

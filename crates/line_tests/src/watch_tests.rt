@@ -1,5 +1,6 @@
 //! What a session is told that watches a document.
 use session_lines::{Refusal, watch_line};
+use std::alloc::Global;
 use std::io;
 use std::io::{ErrorKind, Write};
 use std::test::Fail;
@@ -29,9 +30,9 @@ impl<'a> Source for Given<'a> {
 
 /// Takes so many writes.
 #[derive(Drop)]
-struct Taking {
-    bytes: Vec<u8>,
-    writes: usize,
+pub(crate) struct Taking {
+    pub(crate) bytes: Vec<u8>,
+    pub(crate) writes: usize,
 }
 
 impl Write for Taking {
@@ -100,11 +101,15 @@ fn a_write_that_fails_ends_it(rt: HostRuntime) -> Result<(), Fail> {
     Ok(())
 }
 
-/// A line, and the document that it watches or why it is refused.
-static LINES: [(&[u8], Result<u32, Refusal>); 7] = [
-    (b"{\"op\":\"watch\",\"doc\":4294967295}", Ok(4_294_967_295)),
+/// A line, and the documents that it watches or why it is refused.
+static LINES: [(&[u8], Result<&str, Refusal>); 22] = [
+    (
+        b"{\"op\":\"watch\",\"doc\":4294967295}",
+        Ok("One(4294967295)"),
+    ),
     (b"{\"op\":\"watch\"", Err(Refusal::Syntax)),
     (b"{\"op\":\"text\",\"doc\":1}", Err(Refusal::Request)),
+    (b"{\"op\":\"text\",\"docs\":[1]}", Err(Refusal::Request)),
     (b"{\"op\":\"watch\"}", Err(Refusal::Field)),
     (b"{\"op\":\"watch\",\"doc\":0}", Err(Refusal::Field)),
     (
@@ -115,11 +120,53 @@ static LINES: [(&[u8], Result<u32, Refusal>); 7] = [
         b"{\"op\":\"watch\",\"doc\":1,\"at\":0}",
         Err(Refusal::Field),
     ),
+    (b"{\"op\":\"watch\",\"doc\":[1]}", Err(Refusal::Field)),
+    (
+        b"{\"op\":\"watch\",\"docs\":[1]}",
+        Ok("These(Numbers { numbers: [1] })"),
+    ),
+    (
+        b"{\"docs\":[7,4294967295,7],\"op\":\"watch\"}",
+        Ok("These(Numbers { numbers: [7, 4294967295, 7] })"),
+    ),
+    (b"{\"op\":\"watch\",\"docs\":\"all\"}", Ok("All")),
+    (b"{\"op\":\"watch\",\"docs\":\"ALL\"}", Err(Refusal::Field)),
+    (b"{\"op\":\"watch\",\"docs\":\"\"}", Err(Refusal::Field)),
+    (b"{\"op\":\"watch\",\"docs\":[]}", Err(Refusal::Field)),
+    (b"{\"op\":\"watch\",\"docs\":[1,0]}", Err(Refusal::Field)),
+    (
+        b"{\"op\":\"watch\",\"docs\":[1,\"2\"]}",
+        Err(Refusal::Field),
+    ),
+    (b"{\"op\":\"watch\",\"docs\":[1.0]}", Err(Refusal::Field)),
+    (b"{\"op\":\"watch\",\"docs\":1}", Err(Refusal::Field)),
+    (b"{\"op\":\"watch\",\"docs\":null}", Err(Refusal::Field)),
+    (
+        b"{\"op\":\"watch\",\"docs\":[1],\"doc\":1}",
+        Err(Refusal::Field),
+    ),
+    (
+        b"{\"op\":\"watch\",\"docs\":\"all\",\"rev\":0}",
+        Err(Refusal::Field),
+    ),
 ];
 
-#[test]
-fn a_line_that_watches_is_just_so(rt: HostRuntime) {
-    for (line, found) in &LINES {
-        assert!(rt; watch_line(rt.alloc(), line) == *found, "{line:?}");
+/// What a line is read as: the documents that it watches, or why it is refused.
+fn read_so(alloc: Global, line: &[u8], found: &Result<&str, Refusal>) -> Result<bool, Fail> {
+    match (watch_line(alloc, line), found) {
+        (Ok(watching), Ok(shown)) => {
+            let text = format!(in alloc; "{watching:?}")?;
+            Ok(text.as_str() == *shown)
+        }
+        (Err(refusal), Err(wanted)) => Ok(refusal == *wanted),
+        _ => Ok(false),
     }
+}
+
+#[test]
+fn a_line_that_watches_is_just_so(rt: HostRuntime) -> Result<(), Fail> {
+    for (line, found) in &LINES {
+        assert!(rt; read_so(rt.alloc(), line, found)?, "{line:?}");
+    }
+    Ok(())
 }

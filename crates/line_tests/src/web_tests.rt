@@ -73,10 +73,10 @@ static CASES: [(&[u8], &[u8], Ending, &[u8]); 13] = [
     (
         b"\x81\x81\0\0\0\0a\x88\x82\0\0\0\0\x03\xe8\x81\x81\0\0\0\0b",
         b"a\n",
-        Ending::Closed,
+        Ending::Closed(Some(CloseCode::Normal)),
         b"\x88\x02\x03\xe8",
     ),
-    (b"\x88\x80\0\0\0\0", b"", Ending::Closed, b"\x88\x00"),
+    (b"\x88\x80\0\0\0\0", b"", Ending::Closed(None), b"\x88\x00"),
     // A binary message.
     (
         b"\x81\x81\0\0\0\0a\x82\x81\0\0\0\0b\x81\x81\0\0\0\0c",

@@ -26,6 +26,10 @@ dump_app = with_rule (with_rule (new_app (codes "dump")) (needed (codes "FILE"))
 abbrev pub list_app : App
 list_app = with_rule (new_app (codes "list")) (needed (codes "FILE"))
 
+-- `check FILE`
+abbrev pub check_app : App
+check_app = with_rule (new_app (codes "check")) (needed (codes "FILE"))
+
 -- an option with the value FORM
 abbrev pub form_option : Rule
 form_option = record (new_rule (codes "to")) { long = Some (codes "to"); value_names = 1 }
@@ -51,10 +55,11 @@ flag_option name = record (new_rule name) { long = Some name; action = Some SetT
 abbrev pub origin_option : Rule
 origin_option = record (new_rule (codes "origin")) { long = Some (codes "origin"); value_names = 1; action = Some Append }
 
--- `serve FILE --sessions PORT --peers PORT [--link PORT] [--web PORT] [--origin ORIGIN].. [--end-on-failure] [--log]`
+-- `serve FILE --sessions PORT --peers PORT [--link PORT] [--web PORT] [--origin ORIGIN].. [--end-on-failure] [--log] [--ready]`
 abbrev pub serve_app : App
 serve_app =
     with_rule
+    (with_rule
     (with_rule
     (with_rule
     (with_rule
@@ -65,7 +70,16 @@ serve_app =
     (port_option (codes "web")))
     origin_option)
     (flag_option (codes "end-on-failure")))
-    (flag_option (codes "log"))
+    (flag_option (codes "log")))
+    (flag_option (codes "ready"))
+
+-- the argument LINE, which may be given again
+abbrev pub line_rule : Rule
+line_rule = record (new_rule (codes "LINE")) { action = Some Append }
+
+-- `ask PORT [LINE]..`
+abbrev pub ask_app : App
+ask_app = with_rule (with_rule (new_app (codes "ask")) (needed (codes "PORT"))) line_rule
 
 -- a command that tells its version
 abbrev pub versioned : Shape → Shape
@@ -78,6 +92,6 @@ bare_program = on_top versioned (new_app (codes "peritext"))
 -- all commands of the program
 abbrev pub program : App
 program =
-    with_subcommand (with_subcommand (with_subcommand
+    with_subcommand (with_subcommand (with_subcommand (with_subcommand (with_subcommand
     (with_subcommand (with_subcommand (with_subcommand bare_program init_app.top) edit_app.top) dump_app.top)
-    list_app.top) export_app.top) serve_app.top
+    list_app.top) check_app.top) export_app.top) serve_app.top) ask_app.top

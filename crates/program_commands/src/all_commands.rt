@@ -5,92 +5,18 @@ ghost use Rattle.clap.specs.Words.{app_of, rule_of};
 ghost use Rattle.clap.specs.declared.builder.command.Command.TheViews.{out-Command};
 ghost use Rattle.program_commands.specs.Program.{init_app, edit_app, dump_app, serve_app, port_option, program};
 ghost use Rattle.program_commands.specs.Program.{flag_option, list_app, export_app, form_option, origin_option};
+ghost use Rattle.program_commands.specs.Program.{check_app, ask_app, line_rule};
 ghost use Rattle.program_commands.specs.Program.{needed as needed_rule};
 
+use crate::examples::{
+    ASK_EXAMPLES, CHECK_EXAMPLES, DUMP_EXAMPLES, EDIT_EXAMPLES, EXAMPLES, EXPORT_EXAMPLES,
+    INIT_EXAMPLES, LIST_EXAMPLES, SERVE_EXAMPLES,
+};
 use clap::{Arg, ArgAction, Command};
 use std::alloc::{AllocError, Global};
 
 /// What `--version` tells.
 const VERSION: &str = "0.1.0";
-
-/// A store from its making to its text.
-const EXAMPLES: &str = "\
-Examples:
-  peritext init notes --replica $(cat /proc/sys/kernel/random/uuid)
-  echo '{\"op\":\"insert\",\"doc\":1,\"at\":0,\"text\":\"Hello\"}' | peritext edit notes
-  peritext dump notes 1
-  peritext list notes
-  peritext export notes 1 --to markdown
-  peritext serve notes --sessions 7001 --peers 7002
-
-Without a command: a session over a new store in memory, whose device takes 1,024 calls: some 130
-edits one by one. What comes after them is refused (9).
-Exit status: 0; 1 with a line 'peritext: NUMBER WORD' on standard error; 2 for other words.";
-
-const INIT_EXAMPLES: &str = "\
-Each replica has a UUID of its own: draw a new one for each file, and never give it to a second
-one. A file with bytes in it is refused (48).
-
-Example:
-  peritext init notes --replica $(cat /proc/sys/kernel/random/uuid)";
-
-const EDIT_EXAMPLES: &str = "\
-Each line of the input is a request, each line of the output its answer. An edit is answered
-once it is on the disk. Nobody else can have the file open meanwhile (54).
-Exit status: 0, though requests were refused: their answers say so. 1 with a line 'peritext:
-NUMBER WORD' on standard error if the file can't be opened (54) or the device failed (9).
-
-Examples of requests:
-  {\"op\":\"insert\",\"doc\":1,\"at\":0,\"text\":\"Hello\"}
-  {\"op\":\"delete\",\"doc\":1,\"at\":4,\"count\":1}
-  {\"op\":\"mark\",\"doc\":1,\"from\":0,\"to\":4,\"kind\":\"strong\"}
-  {\"op\":\"unmark\",\"doc\":1,\"from\":0,\"to\":2,\"kind\":\"strong\"}
-  {\"op\":\"text\",\"doc\":1}
-  {\"op\":\"spans\",\"doc\":1}
-  {\"op\":\"status\"}
-  {\"op\":\"stop\"}";
-
-const DUMP_EXAMPLES: &str = "\
-The file is only read. No session can have it open meanwhile (54).
-
-Example:
-  peritext dump notes 1";
-
-const LIST_EXAMPLES: &str = "\
-A line for each document that has operations: how many characters it shows, its number, and how
-many operations it has. Then a line for the file: how many bytes of records, documents, operations
-and replicas it has, and how many it can have. The file is only read. No session can have it open
-meanwhile (54).
-
-Example:
-  peritext list notes";
-
-const EXPORT_EXAMPLES: &str = "\
-The form is text (the characters alone; this is the one if none is named), markdown (CommonMark) or
-html (a page). Comments are tags with their UUID. A link that could run a program, as one to
-'javascript:', is written as its text alone. The file is only read. No session can have it open
-meanwhile (54).
-
-Examples:
-  peritext export notes 1
-  peritext export notes 1 --to markdown > notes.md
-  peritext export notes 1 --to html > notes.html";
-
-const SERVE_EXAMPLES: &str = "\
-Sessions and peers come in on 127.0.0.1, at a port each: a number from 1 to 65535, in decimal
-digits. A session writes requests and reads answers, a line each, as with 'edit'; the first 'stop'
-ends the program. Nobody else can have the file open meanwhile (54). A port that is taken, or where
-no peer can be joined, is refused (70). With --web each WebSocket at that port is a session, too:
-one of a web page whose origin is named by --origin, up to 8 times, or of a program that isn't a web
-page. With --end-on-failure the program ends as soon as the device failed, so that whoever watches
-it starts it again; else it serves on what it has. With --log each event is a line on standard
-error, as 'event=session_up session=3'. Lines that nobody reads in time are dropped and counted.
-Without it nothing is written there, but on a terminal where it listens, and its end.
-
-Examples:
-  peritext serve notes --sessions 7001 --peers 7002
-  peritext serve copy --sessions 7101 --peers 7102 --link 7002
-  peritext serve notes --sessions 7001 --peers 7002 --web 7003 --origin http://localhost:8080";
 
 /// All commands of the program, with their help. An error is out of memory (1).
 pub fn commands<'a>(alloc: Global) -> Result<Command<'a>, AllocError>
@@ -105,8 +31,10 @@ pub fn commands<'a>(alloc: Global) -> Result<Command<'a>, AllocError>
         .subcommand(edit_command(alloc)?)?
         .subcommand(dump_command(alloc)?)?
         .subcommand(list_command(alloc)?)?
+        .subcommand(check_command(alloc)?)?
         .subcommand(export_command(alloc)?)?
-        .subcommand(serve_command(alloc)?)?;
+        .subcommand(serve_command(alloc)?)?
+        .subcommand(ask_command(alloc)?)?;
     Ok(all)
 }
 
@@ -181,6 +109,21 @@ fn list_command<'a>(alloc: Global) -> Result<Command<'a>, AllocError>
     Ok(command)
 }
 
+/// `check FILE`.
+fn check_command<'a>(alloc: Global) -> Result<Command<'a>, AllocError>
+    ensures app { IfOk result (λ command. app_of command ≡ check_app) }
+    ensures local { IfOk result (λ command. (out-Command command).has_globals ≡ false) }
+{
+    let bare = described(
+        alloc,
+        "check",
+        "Opens a store, and tells what it found",
+        CHECK_EXAMPLES,
+    );
+    let command = bare.arg(needed(alloc, "FILE", "The store"))?;
+    Ok(command)
+}
+
 /// `export FILE DOC [--to FORM]`.
 fn export_command<'a>(alloc: Global) -> Result<Command<'a>, AllocError>
     ensures app { IfOk result (λ command. app_of command ≡ export_app) }
@@ -200,7 +143,7 @@ fn export_command<'a>(alloc: Global) -> Result<Command<'a>, AllocError>
 }
 
 /// `serve FILE --sessions PORT --peers PORT [--link PORT] [--web PORT] [--origin ORIGIN]..
-/// [--end-on-failure] [--log]`.
+/// [--end-on-failure] [--log] [--ready]`.
 fn serve_command<'a>(alloc: Global) -> Result<Command<'a>, AllocError>
     ensures app { IfOk result (λ command. app_of command ≡ serve_app) }
     ensures local { IfOk result (λ command. (out-Command command).has_globals ≡ false) }
@@ -223,7 +166,25 @@ fn serve_command<'a>(alloc: Global) -> Result<Command<'a>, AllocError>
             alloc,
             "log",
             "Writes a line for each event to standard error",
-        ))?;
+        ))?
+        .arg(flag(alloc, "ready", "Prints a line once all its ports listen"))?;
+    Ok(command)
+}
+
+/// `ask PORT [LINE]..`.
+fn ask_command<'a>(alloc: Global) -> Result<Command<'a>, AllocError>
+    ensures app { IfOk result (λ command. app_of command ≡ ask_app) }
+    ensures local { IfOk result (λ command. (out-Command command).has_globals ≡ false) }
+{
+    let bare = described(
+        alloc,
+        "ask",
+        "Asks a daemon, and prints its answers",
+        ASK_EXAMPLES,
+    );
+    let command = bare
+        .arg(needed(alloc, "PORT", "Where its sessions come in"))?
+        .arg(line(alloc))?;
     Ok(command)
 }
 
@@ -267,6 +228,16 @@ fn origin<'a>(alloc: Global) -> Arg<'a>
         .value_name("ORIGIN")
         .action(ArgAction::Append)
         .help("A web page that may open WebSockets, as http://localhost:8080")
+}
+
+/// The argument LINE, which may be given again.
+fn line<'a>(alloc: Global) -> Arg<'a>
+    ensures rule { rule_of result ≡ line_rule }
+    ensures local { result.global ≡ false }
+{
+    Arg::new(alloc, "LINE")
+        .action(ArgAction::Append)
+        .help("A request; without any, each line of the input is one")
 }
 
 /// An option without a value.

@@ -4,5 +4,6 @@
 #![tactic(auto)]
 
 mod all_commands;
+mod examples;
 
 pub use all_commands::commands;

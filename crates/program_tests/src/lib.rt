@@ -2,6 +2,10 @@
 #![tactic(auto)]
 
 #[cfg(test)]
+mod asking_word_tests;
+#[cfg(test)]
+mod check_tests;
+#[cfg(test)]
 mod device_tests;
 #[cfg(test)]
 mod export_tests;

@@ -15,7 +15,7 @@ fn without_a_file_a_new_store_is_edited(rt: HostRuntime) -> Result<(), Fail> {
     Ok(())
 }
 
-static SESSIONS: [Session; 7] = [
+static SESSIONS: [Session; 8] = [
     (
         "a fresh store is empty",
         "{\"op\":\"text\",\"doc\":9}\n{\"op\":\"status\"}\n",
@@ -30,6 +30,11 @@ static SESSIONS: [Session; 7] = [
         "what changed and places are told",
         "{\"op\":\"insert\",\"doc\":1,\"at\":0,\"text\":\"abc\"}\n{\"op\":\"changes\",\"doc\":1,\"since\":3}\n{\"op\":\"delete\",\"doc\":1,\"at\":1,\"count\":1}\n{\"op\":\"changes\",\"doc\":1,\"since\":3}\n{\"op\":\"changes\",\"doc\":1,\"since\":0}\n{\"op\":\"changes\",\"doc\":1,\"since\":5}\n{\"op\":\"anchors\",\"doc\":1,\"at\":[0],\"side\":\"previous\"}\n{\"op\":\"places\",\"doc\":1,\"anchors\":[\"start\",\"end\"]}\n{\"op\":\"anchors\",\"doc\":1,\"at\":[3],\"side\":\"next\"}\n",
         "{\"ok\":true,\"rev\":3}\n{\"changes\":[],\"ok\":true,\"rev\":3}\n{\"ok\":true,\"rev\":4}\n{\"changes\":[{\"retain\":1},{\"delete\":1}],\"ok\":true,\"rev\":4}\n{\"changes\":[{\"insert\":\"ac\"}],\"ok\":true,\"rev\":4}\n{\"code\":6,\"error\":\"stale\",\"ok\":false}\n{\"anchors\":[\"start\"],\"ok\":true,\"rev\":4}\n{\"ok\":true,\"places\":[0,2],\"rev\":4}\n{\"code\":5,\"error\":\"range\",\"ok\":false}\n",
+    ),
+    (
+        "a text is found, and a document exported",
+        "{\"op\":\"insert\",\"doc\":1,\"at\":0,\"text\":\"aaba\"}\n{\"op\":\"find\",\"doc\":1,\"text\":\"a\",\"from\":1}\n{\"op\":\"find\",\"doc\":1,\"text\":\"aab\"}\n{\"op\":\"find\",\"doc\":1,\"text\":\"\"}\n{\"op\":\"mark\",\"doc\":1,\"from\":2,\"to\":4,\"kind\":\"em\"}\n{\"op\":\"export\",\"doc\":1,\"to\":\"markdown\"}\n{\"op\":\"export\",\"doc\":1,\"to\":\"pdf\"}\n",
+        "{\"ok\":true,\"rev\":4}\n{\"ok\":true,\"places\":[1,3],\"rev\":4}\n{\"ok\":true,\"places\":[0],\"rev\":4}\n{\"code\":4,\"error\":\"field\",\"ok\":false}\n{\"ok\":true,\"rev\":5}\n{\"ok\":true,\"rev\":5,\"text\":\"aa*ba*\\n\"}\n{\"code\":4,\"error\":\"field\",\"ok\":false}\n",
     ),
     (
         "edits at places that last are made, or refused",

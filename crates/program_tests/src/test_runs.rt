@@ -5,7 +5,7 @@ use op_ids::ReplicaId;
 use std::alloc::{AllocError, Global};
 use std::process::Abort;
 use std::test::Fail;
-use store_orders::{Ended, Shown, perform, print, show, status};
+use store_orders::{Ended, Shown, perform, print, show, show_check, status};
 
 /// What a run leaves: its disk, its exit status, and what it wrote.
 #[derive(Drop)]
@@ -28,11 +28,11 @@ pub fn run<D: Disk>(alloc: Global, order: &StoreOrder<'_>, disk: D, input: &str)
     }
 }
 
-/// A dump of a document.
-fn dumped<D: Disk>(alloc: Global, doc: u32, disk: D) -> Ran<D> {
+/// A run that prints what was shown.
+fn shown<D: Disk>(alloc: Global, it: Shown<D>) -> Ran<D> {
     let mut output = Vec::new(alloc);
     let mut faults = Vec::new(alloc);
-    let Shown { disk, lines } = show(alloc, disk, doc);
+    let Shown { disk, lines } = it;
     let end = match lines {
         Ok(lines) => print(&lines, &mut output),
         Err(fault) => Err(fault),
@@ -57,6 +57,8 @@ pub enum What<'a> {
     Order(StoreOrder<'a>, &'a str),
     /// A document is dumped.
     Dump(u32),
+    /// It is checked.
+    Check,
 }
 
 /// What is done, the status that it ends with, what it writes, and what it tells of a fault.
@@ -84,7 +86,8 @@ pub fn turn<D: Disk>(rt: &(impl Abort + AllocGlobal), disk: D, row: &Row<'_>) ->
     let (what, status, output, faults) = row;
     let ran = match what {
         What::Order(order, input) => run(rt.alloc(), order, disk, input),
-        What::Dump(doc) => dumped(rt.alloc(), *doc, disk),
+        What::Dump(doc) => shown(rt.alloc(), show(rt.alloc(), disk, *doc)),
+        What::Check => shown(rt.alloc(), show_check(rt.alloc(), disk)),
     };
     written(rt, ran, *status, output, faults)
 }

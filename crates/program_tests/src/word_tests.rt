@@ -96,6 +96,7 @@ const PLAIN: ServeOrder<'static> = ServeOrder {
     web: None,
     ends_on_failure: false,
     logs: false,
+    tells_ready: false,
 };
 
 /// What words ask for, as rows have it.

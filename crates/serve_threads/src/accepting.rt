@@ -9,7 +9,7 @@ use crate::lobby::Lobby;
 use crate::session_thread::serve_session;
 use crate::timed::Timed;
 use crate::web_thread::serve_web;
-use event_journal::{Event, LinkPlace, Reason};
+use event_journal::{Entrance, Event, LinkPlace, Reason};
 use fixed_numbers::refusals::BUSY;
 use link_threads::serve_link;
 use pass_books::BookNames;
@@ -98,7 +98,14 @@ fn refused_at(kind: Kind, port: u16) -> Event<'static> {
         word: "busy",
     };
     match kind {
-        Kind::Session | Kind::Web => Event::SessionRefused { reason },
+        Kind::Session => Event::SessionRefused {
+            door: Entrance::Sessions,
+            reason,
+        },
+        Kind::Web => Event::SessionRefused {
+            door: Entrance::Web { origin: None },
+            reason,
+        },
         Kind::Link => Event::LinkRefused { port, reason },
     }
 }
@@ -124,6 +131,7 @@ fn serve<R: Wait + Clock + Threads + Sync, J: BookNames + Send + Sync, C: Checkp
             let timed = Timed::new(hall.rt, stream);
             let caller = Caller {
                 stream,
+                door: Entrance::Sessions,
                 timed: &timed,
                 reader: &timed,
                 writer: stream,

@@ -8,7 +8,7 @@ use crate::lobby::Lobby;
 use crate::timed::Timed;
 use crate::until_closed::UntilClosed;
 use crate::watch_thread::watch;
-use event_journal::{Event, Reason};
+use event_journal::{Entrance, Event, Reason};
 use first_bytes::{FirstLine, FirstLook, FirstWatch};
 use fixed_numbers::refusals::{BUSY, MEMORY, STREAM};
 use pass_books::BookNames;
@@ -37,22 +37,19 @@ pub(crate) fn serve_session<
 >(hall: &Hall<R, J, C>, lobby: &Lobby<J>, entry: Entry, caller: Caller<'_, R, S, W>) {
     let Caller {
         stream,
+        door,
         timed,
         mut reader,
         mut writer,
     } = caller;
     let mut first = FirstLine::new();
-    let is_let_in = !entry.has_last || may_have_last(hall.alloc, timed, &mut reader, &mut first);
-    let found = if is_let_in {
-        lobby.take_pass(hall.rt)
-    } else {
-        None
-    };
+    let found = take_pass(hall, lobby, entry, timed, &mut reader, &mut first);
     let pass = match found {
         Some(pass) => {
             let rest = UntilClosed::new(hall.rt, lobby, entry, reader);
             let caller = Caller {
                 stream,
+                door,
                 timed,
                 reader: first.chain(rest),
                 writer,
@@ -60,23 +57,39 @@ pub(crate) fn serve_session<
             Some(serve(hall, entry.number, caller, pass))
         }
         None => {
-            refuse(hall, stream, &mut writer);
+            refuse(hall, stream, door, &mut writer);
             None
         }
     };
     lobby.leave(hall.rt, entry, pass);
 }
 
+/// A pass for a session, if there is one, unless it has the last place and may not.
+fn take_pass<R: Wait + Clock, J: BookNames, C: Checkpoint, S: Read>(
+    hall: &Hall<R, J, C>,
+    lobby: &Lobby<J>,
+    entry: Entry,
+    timed: &Timed<'_, R>,
+    reader: &mut S,
+    first: &mut FirstLine,
+) -> Option<Pass<J>> {
+    if entry.has_last && !may_have_last(hall.alloc, timed, reader, first) {
+        return None;
+    }
+    lobby.take_pass(hall.rt)
+}
+
 /// Answers a session 8 that isn't served, so that the answer arrives, and tells of it.
 fn refuse<R: Wait, J: BookNames, C: Checkpoint, W: Answers>(
     hall: &Hall<R, J, C>,
     stream: &TcpStream,
+    door: Entrance<'_>,
     writer: &mut W,
 ) {
     writer.refuse();
     send_last_words(stream);
     let reason = reason(BUSY, "busy");
-    hall.tell(&Event::SessionRefused { reason });
+    hall.tell(&Event::SessionRefused { door, reason });
 }
 
 /// What ended a session.
@@ -119,7 +132,8 @@ fn serve<R: Wait + Clock, J: BookNames, C: Checkpoint, S: Read + Drop, W: Answer
     caller: Caller<'_, R, S, W>,
     pass: Pass<J>,
 ) -> Pass<J> {
-    hall.tell(&Event::SessionUp { session: number });
+    let (session, door) = (number, caller.door);
+    hall.tell(&Event::SessionUp { session, door });
     // Each answer goes out at once: its sender waits for nothing behind it.
     let _ = caller.stream.set_nodelay(true);
     let mut desk = SharedDesk::new(hall.daemon(), pass);
@@ -132,12 +146,12 @@ fn serve<R: Wait + Clock, J: BookNames, C: Checkpoint, S: Read + Drop, W: Answer
     let reader = FirstWatch::new(hall.alloc, FirstLook::new(reader));
     let mut session = Session::new(reader, writer);
     let served = serve_requests(hall, stream, &mut session, &mut desk);
-    let reason = reason_of(&served);
+    let is_ending = is_ended_here(&session, &served) || hall.ending.is_asked(hall.rt);
     hall.tell(&Event::SessionDown {
         session: number,
-        reason,
+        reason: reason_of(&served),
+        close: session.writer.close_code(is_ending),
     });
-    let is_ending = hall.ending.is_asked(hall.rt);
     take_leave(stream, &mut session, &served, is_ending);
     desk.into_pass()
 }
@@ -150,12 +164,22 @@ fn serve_requests<R: Wait + Clock, J: BookNames, C: Checkpoint, S: Read, W: Writ
     desk: &mut SharedDesk<'_, R, J, C>,
 ) -> Result<(), SessionFault> {
     session.serve(hall.alloc, desk)?;
-    match session.reader.watch() {
-        Some(request) => {
-            let rest = session.reader.rest();
-            watch(hall, stream, request, rest, &mut session.writer)
-        }
-        None => Ok(()),
+    let Some(request) = session.reader.take_watch() else {
+        return Ok(());
+    };
+    let rest = session.reader.rest();
+    watch(hall, stream, request, rest, &mut session.writer)
+}
+
+/// Whether this end ends a session that was served so, also if the daemon goes on.
+fn is_ended_here<S: Read, W: Write>(
+    session: &Session<FirstWatch<S>, W>,
+    served: &Result<(), SessionFault>,
+) -> bool {
+    match served {
+        Ok(()) => session.reader.is_watch(),
+        Err(SessionFault::Memory) => true,
+        Err(SessionFault::Stream(_)) => false,
     }
 }
 
@@ -167,13 +191,8 @@ fn take_leave<S: Read, W: Answers>(
     served: &Result<(), SessionFault>,
     is_ending: bool,
 ) {
-    let ends = match served {
-        Ok(()) => session.reader.watch().is_some(),
-        Err(SessionFault::Memory) => {
-            session.writer.refuse();
-            true
-        }
-        Err(SessionFault::Stream(_)) => false,
-    };
-    session.writer.part(stream, ends || is_ending);
+    if let Err(SessionFault::Memory) = served {
+        session.writer.refuse();
+    }
+    session.writer.part(stream, is_ending);
 }

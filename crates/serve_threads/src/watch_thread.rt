@@ -1,25 +1,22 @@
 //! A session that is told of changes, over its connection.
 
 use crate::hall::Hall;
-use first_bytes::{Watch, has_to_wait};
+use crate::still::{Still, patience};
+use crate::watch_several::watch_several;
+use first_bytes::Watch;
 use pass_books::BookNames;
+use session_lines::Watching;
 use session_threads::SessionFault;
-use shared_desk::Ending;
-use shared_hub::{Checkpoint, Shared, Watched};
+use shared_hub::{Checkpoint, Shared, WatchBook, Watched};
 use std::io::{Read, Write};
 use std::net::TcpStream;
 use std::rt::Clock;
 use std::sync::Wait;
-use std::time::Duration;
 use watch_lines::{LineRoom, Next, Source, serve_watch};
 
-/// How long one wait for a change takes at most, in milliseconds: after each it is looked whether
-/// somebody is still to be told.
-const PATIENCE: u64 = 200;
-
-/// Tells a session of a document's changes, until its connection ends or something more comes over
-/// it, the daemon ends or nothing more is settled; before that it is told the newest number. What
-/// it was told comes to it, though it said more than was read.
+/// Tells a session of changes, until its connection ends or something more comes over it, the
+/// daemon ends or nothing more is settled; before that it is told the newest numbers. What it was
+/// told comes to it, though it said more than was read.
 pub(crate) fn watch<R: Wait + Clock, J: BookNames, C: Checkpoint, S: Read, W: Write>(
     hall: &Hall<R, J, C>,
     stream: &TcpStream,
@@ -27,15 +24,46 @@ pub(crate) fn watch<R: Wait + Clock, J: BookNames, C: Checkpoint, S: Read, W: Wr
     reader: &mut S,
     writer: &mut W,
 ) -> Result<(), SessionFault> {
+    let Watch {
+        watching,
+        is_followed,
+    } = watch;
+    match watching {
+        Watching::One(doc) => watch_one(hall, stream, (doc, is_followed), reader, writer),
+        Watching::These(docs) => {
+            let book = hall
+                .shared
+                .watch_these(hall.rt, hall.alloc, docs.as_slice())?;
+            watch_several(hall, stream, (book, is_followed), reader, writer)
+        }
+        Watching::All => {
+            let book = WatchBook::of_all(hall.alloc);
+            watch_several(hall, stream, (book, is_followed), reader, writer)
+        }
+    }
+}
+
+/// Tells a session of a document's changes; whether it is looked only once comes with the document.
+fn watch_one<R: Wait + Clock, J: BookNames, C: Checkpoint, S: Read, W: Write>(
+    hall: &Hall<R, J, C>,
+    stream: &TcpStream,
+    asked: (u32, bool),
+    reader: &mut S,
+    writer: &mut W,
+) -> Result<(), SessionFault> {
+    let (doc, is_last) = asked;
     let mut room = LineRoom::new(hall.alloc)?;
     let mut changes = Changes {
         rt: hall.rt,
         shared: &hall.shared,
-        ending: &hall.ending,
-        stream,
-        reader,
-        doc: watch.doc,
-        is_last: watch.is_followed,
+        still: Still {
+            rt: hall.rt,
+            ending: &hall.ending,
+            stream,
+            reader,
+        },
+        doc,
+        is_last,
         is_over: false,
     };
     match serve_watch(hall.alloc, &mut room, writer, &mut changes) {
@@ -49,9 +77,7 @@ pub(crate) fn watch<R: Wait + Clock, J: BookNames, C: Checkpoint, S: Read, W: Wr
 struct Changes<'a, R: Wait + Clock, J: BookNames, S: Read> {
     rt: &'a R,
     shared: &'a Shared<J>,
-    ending: &'a Ending,
-    stream: &'a TcpStream,
-    reader: &'a mut S,
+    still: Still<'a, R, S>,
     doc: u32,
     /// Whether it is looked only once more.
     is_last: bool,
@@ -70,36 +96,12 @@ impl<'a, R: Wait + Clock, J: BookNames, S: Read> Source for Changes<'a, R, J, S>
         if self.is_over {
             return Next::Closed;
         }
-        self.is_over = self.is_last || self.has_to_end();
-        let patience = if self.is_over { 0 } else { PATIENCE };
-        let time = Duration::from_millis(patience);
+        self.is_over = self.is_last || self.still.has_to_end();
+        let time = patience(self.is_over);
         match self.shared.watch(self.rt, self.doc, told, time) {
             Watched::Rev(rev) => Next::Rev(rev),
             Watched::Nothing => Next::Quiet,
             Watched::Failed => Next::Failed,
         }
-    }
-}
-
-impl<'a, R: Wait + Clock, J: BookNames, S: Read> Changes<'a, R, J, S> {
-    /// Whether the daemon was asked to end, or the session's input isn't still as it was.
-    fn has_to_end(&mut self) -> bool {
-        self.ending.is_asked(self.rt) || !is_silent(self.stream, self.reader)
-    }
-}
-
-/// Whether a connection goes on, and no line comes over it. It doesn't wait for anything.
-fn is_silent<S: Read>(stream: &TcpStream, reader: &mut S) -> bool {
-    if stream.set_nonblocking(true).is_err() {
-        return false;
-    }
-    let read = reader.read(&mut [0]);
-    // The lines are to be written with all the time that the other end takes.
-    if stream.set_nonblocking(false).is_err() {
-        return false;
-    }
-    match read {
-        Ok(_) => false,
-        Err(error) => has_to_wait(error.kind()),
     }
 }

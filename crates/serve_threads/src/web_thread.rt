@@ -9,7 +9,7 @@ use crate::session_thread::serve_session;
 use crate::timed::Timed;
 use crate::web_ends::{WebAnswers, WebLines};
 use crate::web_sides::{ReadSide, WriteSide};
-use event_journal::{Event, Reason};
+use event_journal::{Entrance, Event, Reason};
 use pass_books::BookNames;
 use shared_hub::Checkpoint;
 use std::cell::{Cell, RefCell};
@@ -17,7 +17,7 @@ use std::net::TcpStream;
 use std::rt::Clock;
 use std::sync::Wait;
 use std::time::Duration;
-use web_guests::{Refusal, admit};
+use web_guests::{Guest, Origin, Refusal, admit_from};
 use web_lines::Outlet;
 
 /// How long the head of its request may take, and one write of the answer to it, in seconds.
@@ -32,14 +32,15 @@ pub(crate) fn serve_web<R: Wait + Clock, J: BookNames, C: Checkpoint>(
     stream: &TcpStream,
 ) {
     let timed = Timed::new(hall.rt, stream);
-    if let Err(refusal) = let_in(hall, stream, &timed) {
-        if is_answered(refusal) {
-            send_last_words(stream);
+    let origin = match let_in(hall, stream, &timed) {
+        Ok(Some(origin)) => Some(origin.as_str()),
+        Ok(None) => None,
+        Err(refusal) => {
+            part(hall, stream, refusal);
+            lobby.leave(hall.rt, entry, None);
+            return;
         }
-        tell_sent_away(hall, refusal);
-        lobby.leave(hall.rt, entry, None);
-        return;
-    }
+    };
     let outlet = RefCell::new(Outlet::new(hall.alloc));
     let heard = ReadSide {
         timed: &timed,
@@ -50,14 +51,27 @@ pub(crate) fn serve_web<R: Wait + Clock, J: BookNames, C: Checkpoint>(
         stream,
         outlet: &outlet,
     };
-    let is_closed = Cell::new(false);
+    let close = Cell::new(None);
     let caller = Caller {
         stream,
+        door: Entrance::Web { origin },
         timed: &timed,
-        reader: WebLines::new(hall.alloc, heard, &is_closed),
-        writer: WebAnswers::new(hall.alloc, said, &is_closed),
+        reader: WebLines::new(hall.alloc, heard, &close),
+        writer: WebAnswers::new(hall.alloc, said, &close),
     };
     serve_session(hall, lobby, entry, caller);
+}
+
+/// Parts from a connection that may not come in, and tells of it.
+fn part<R: Wait, J: BookNames, C: Checkpoint>(
+    hall: &Hall<R, J, C>,
+    stream: &TcpStream,
+    refusal: Refusal,
+) {
+    if is_answered(refusal) {
+        send_last_words(stream);
+    }
+    tell_sent_away(hall, refusal);
 }
 
 /// Whether one that is sent away so was told anything.
@@ -68,21 +82,22 @@ fn is_answered(refusal: Refusal) -> bool {
     )
 }
 
-/// Reads what a connection asks for, and answers that.
-fn let_in<R: Wait + Clock, J: BookNames, C: Checkpoint>(
-    hall: &Hall<R, J, C>,
+/// Reads what a connection asks for, and answers that. Gives the origin of the web page from which
+/// it comes, if it comes from one.
+fn let_in<'a, R: Wait + Clock, J: BookNames, C: Checkpoint>(
+    hall: &Hall<'a, R, J, C>,
     stream: &TcpStream,
     timed: &Timed<'_, R>,
-) -> Result<(), Refusal> {
+) -> Result<Option<&'a Origin>, Refusal> {
     let Ok(place) = stream.local_addr() else {
         return Err(Refusal::Failed);
     };
     timed.begin(Duration::from_secs(HEAD));
     let origins = hall.manner.origins;
-    let admitted = admit(hall.alloc, timed, place.port(), origins, None);
+    let admitted = admit_from(hall.alloc, timed, place.port(), origins, None);
     timed.end();
     match admitted {
-        Ok(_socket) => Ok(()),
+        Ok(Guest { origin, .. }) => Ok(origin),
         Err(refusal) => Err(refusal),
     }
 }
@@ -94,6 +109,7 @@ fn tell_sent_away<R: Wait, J: BookNames, C: Checkpoint>(hall: &Hall<R, J, C>, re
             code: 0,
             word: word.as_str(),
         };
-        hall.tell(&Event::SessionRefused { reason });
+        let door = Entrance::Web { origin: None };
+        hall.tell(&Event::SessionRefused { door, reason });
     }
 }

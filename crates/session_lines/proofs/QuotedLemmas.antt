@@ -5,7 +5,7 @@ use Rattle.std.proofs.lemmas.List.{take_at, take_more}
 use Rattle.std.proofs.lemmas.List.Concat.{flat_map-append}
 use Rattle.std.proofs.lemmas.Str.{encodes-append}
 use Rattle.session_lines.specs.Putting.{inside}
-use Rattle.session_lines.specs.Saying.{quoted}
+use Rattle.session_lines.specs.Words.{quoted}
 
 -- what stands between two quotes
 between_quotes : (bytes : List ℕ) → slice_range (34 ∷ (bytes ++ 34 ∷ [])) 1 (length (34 ∷ (bytes ++ 34 ∷ [])) - 1) ≡ bytes

@@ -7,7 +7,8 @@ use Rattle.op_model.specs.declared.span.Span.{Span}
 use Rattle.peer_counts.specs.declared.peer_counts.PeerCounts.{PeerCounts}
 use Rattle.op_model.specs.declared.change_step.ChangeStep.{ChangeStep}
 use Rattle.op_model.specs.declared.lasting.Lasting.{Lasting}
-use Rattle.session_lines.specs.Saying.{comma_after, said_id, said_ids, said_span, said_spans, said_comments, said_peer, said_peers}
+use Rattle.session_lines.specs.Saying.{said_id, said_ids, said_span, said_spans, said_comments, said_peer, said_peers}
+use Rattle.session_lines.specs.Words.{comma_after}
 use Rattle.session_lines.specs.Saying.{said_place, said_places, said_anchor, said_anchors, said_step, said_steps}
 
 -- a piece moves from what is still to be said to what is said

@@ -106,6 +106,8 @@ change_of verb.Changes outer d = Err Field
 change_of verb.Anchors outer d = Err Field
 change_of verb.Places outer d = Err Field
 change_of verb.Status outer d = Err Field
+change_of verb.Find outer d = Err Field
+change_of verb.Export outer d = Err Field
 change_of verb.Peers outer d = Err Field
 change_of verb.Stop outer d = Err Field
 

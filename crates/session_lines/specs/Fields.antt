@@ -47,6 +47,8 @@ verb_named name =
     else if bytes_eq name (codes "changes") then Some verb.Changes
     else if bytes_eq name (codes "anchors") then Some verb.Anchors
     else if bytes_eq name (codes "places") then Some verb.Places
+    else if bytes_eq name (codes "find") then Some verb.Find
+    else if bytes_eq name (codes "export") then Some verb.Export
     else if bytes_eq name (codes "status") then Some verb.Status
     else if bytes_eq name (codes "peers") then Some verb.Peers
     else if bytes_eq name (codes "stop") then Some verb.Stop

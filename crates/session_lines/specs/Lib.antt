@@ -4,5 +4,8 @@ pub mod Several
 pub mod Putting
 pub mod Spots
 pub mod Edits
+pub mod Words
+pub mod Reading
 pub mod Requests
+pub mod Watches
 pub mod Saying

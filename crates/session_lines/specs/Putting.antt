@@ -1,7 +1,7 @@
 -- Bytes that are put at the end of a buffer.
 use Rattle.std.specs.Prelude.{◌≡◌, ◌≤◌, ◌-◌, ℕ, List, ◌++◌, length, slice_range, Result, OnOk, OnErr, vec_capacity}
 use Rattle.std.specs.Global.{Vec}
-use Rattle.session_lines.specs.Saying.{quoted}
+use Rattle.session_lines.specs.Words.{quoted}
 
 -- what stands between the quotes of bytes of UTF-8 as a JSON string
 abbrev pub inside : List ℕ → List ℕ

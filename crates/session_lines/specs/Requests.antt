@@ -11,6 +11,7 @@ use Rattle.session_lines.specs.declared.verb.Verb.{Verb}
 use Rattle.session_lines.specs.declared.verb.Verb.TheVariants as verb
 use Rattle.session_lines.specs.Edits.{edit_asked, edits_asked}
 use Rattle.session_lines.specs.Fields.{◌>>=◌, verb_named, text_at, only, whole}
+use Rattle.session_lines.specs.Reading.{find_asked, export_asked}
 use Rattle.session_lines.specs.Several.{numbers_of, anchors_of, side_of}
 
 -- what isn't there is no request
@@ -67,6 +68,8 @@ command_of verb.Spans d = only doc_fields d >>= λ _. whole (codes "doc") 1 d >>
 command_of verb.Changes d = changes_asked d
 command_of verb.Anchors d = anchors_asked d
 command_of verb.Places d = places_asked d
+command_of verb.Find d = find_asked d
+command_of verb.Export d = export_asked d
 command_of verb.Status d = only (codes "op" ∷ []) d >>= λ _. Ok command.Status
 command_of verb.Peers d = only (codes "op" ∷ []) d >>= λ _. Ok command.Peers
 command_of verb.Stop d = only (codes "op" ∷ []) d >>= λ _. Ok command.Stop
@@ -95,14 +98,3 @@ watch_named name = if bytes_eq name (codes "watch") then Some tt else None
 -- a request of another name isn't one to be told of changes
 abbrev pub watch_name : Data → Result ⊤ Refusal
 watch_name d = or_request (option_and_then watch_named (text_at (codes "op") d))
-
--- the document of whose changes a JSON value asks to be told
-abbrev pub watch_of : Data → Result ℕ Refusal
-watch_of d =
-    watch_name d >>= λ _.
-    only doc_fields d >>= λ _.
-    whole (codes "doc") 1 d
-
--- the document of whose changes a line asks to be told, or why it is no such request
-abbrev pub watched_by : List ℕ → Result ℕ Refusal
-watched_by line = or_syntax (reading line) >>= λ d. watch_of d

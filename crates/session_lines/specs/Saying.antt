@@ -3,8 +3,6 @@ use Rattle.std.specs.Prelude.{ℕ, ◌-◌, List, [], ◌∷◌, ◌++◌, lengt
 use Rattle.std.specs.Prelude.{slice_get, codes, decimal, encode_utf8_all}
 use Rattle.std.specs.Int.{w128, to_be_bytes}
 use Rattle.uuid.specs.Text.{lower, hyphenated_text}
-use Rattle.serde_json.specs.Data.{string}
-use Rattle.serde_json.specs.Written.{compact_text}
 use Rattle.fixed_numbers.specs.declared.refusals.TheConstants.{BUSY, FAILED, FIELD, LIMIT, LINE, MEMORY, RANGE, REQUEST, STALE, STEPS, STOPPING, SYNTAX}
 use Rattle.op_model.specs.declared.change_step.ChangeStep.{ChangeStep}
 use Rattle.op_model.specs.declared.change_step.ChangeStep.TheVariants as change
@@ -19,6 +17,7 @@ use Rattle.session_lines.specs.declared.answer.Answer.TheVariants as answer
 use Rattle.session_lines.specs.declared.answer.State.{State}
 use Rattle.session_lines.specs.declared.answer.State.TheVariants as state
 use Rattle.session_lines.specs.Anchors.{lasting_text}
+use Rattle.session_lines.specs.Words.{comma_after, quoted, said_replica}
 
 -- the number of a refusal
 abbrev pub number_of : Refusal → ℕ
@@ -56,10 +55,6 @@ state_word state.Open = codes "open"
 state_word state.Stopping = codes "stopping"
 state_word state.Failed = codes "failed"
 
--- bytes of UTF-8 as a JSON string
-abbrev pub quoted : List ℕ → List ℕ
-quoted bytes = compact_text (string bytes)
-
 -- characters as a JSON string
 abbrev pub said_characters : List ℕ → List ℕ
 said_characters characters = quoted (encode_utf8_all characters)
@@ -67,11 +62,6 @@ said_characters characters = quoted (encode_utf8_all characters)
 -- the name of a comment as a JSON string: a UUID, hyphenated in lower case
 abbrev pub said_id : ℕ → List ℕ
 said_id id = quoted (hyphenated_text lower (to_be_bytes w128 id))
-
--- a comma, where something stands before
-abbrev pub comma_after : Bool → List ℕ
-comma_after true = codes ","
-comma_after false = []
 
 -- the names of comments, and the closing bracket
 abbrev pub said_ids : Bool → List ℕ → List ℕ
@@ -205,10 +195,20 @@ said_standing rev places =
 abbrev pub said_edited : ℕ → List ℕ
 said_edited rev = codes "{\"ok\":true,\"rev\":" ++ (decimal rev ++ codes "}\n")
 
+-- the line that tells how many settled operations one of several watched documents has
+abbrev pub said_watched : ℕ → ℕ → List ℕ
+said_watched doc rev =
+    codes "{\"doc\":" ++ (decimal doc ++ (codes ",\"ok\":true,\"rev\":" ++ (decimal rev ++ codes "}\n")))
+
 -- the answer that shows a text
 abbrev pub said_text : ℕ → List ℕ → List ℕ
 said_text rev text =
     codes "{\"ok\":true,\"rev\":" ++ (decimal rev ++ (codes ",\"text\":" ++ (said_characters text ++ codes "}\n")))
+
+-- the answer that has a document as other programs read it
+abbrev pub said_exported : ℕ → List ℕ → List ℕ
+said_exported rev bytes =
+    codes "{\"ok\":true,\"rev\":" ++ (decimal rev ++ (codes ",\"text\":" ++ (quoted bytes ++ codes "}\n")))
 
 -- the answer that lists spans
 abbrev pub said_listed : ℕ → List Span → List ℕ
@@ -221,10 +221,6 @@ said_status applied settled state =
     codes "{\"applied\":" ++ (decimal applied
     ++ (codes ",\"ok\":true,\"settled\":" ++ (decimal settled
     ++ (codes ",\"state\":\"" ++ (state_word state ++ codes "\"}\n")))))
-
--- the name of a replica as a JSON string: a UUID, hyphenated in lower case
-abbrev pub said_replica : ℕ → List ℕ
-said_replica replica = quoted (hyphenated_text lower (to_be_bytes w128 replica))
 
 -- a peer: what it has, what it lacks, and its replica
 abbrev pub said_peer : PeerCounts → List ℕ
@@ -269,6 +265,7 @@ said (answer.Spans rev spans) = said_listed rev spans
 said (answer.Changes rev changes) = said_changed rev changes
 said (answer.Anchors rev anchors) = said_named rev anchors
 said (answer.Places rev places) = said_standing rev places
+said (answer.Exported rev text) = said_exported rev text
 said (answer.Status applied settled state) = said_status applied settled state
 said (answer.Peers peers sessions) = said_connected peers sessions
 said answer.Stopped = said_done
@@ -284,6 +281,7 @@ is_long (answer.Spans rev spans) = true
 is_long (answer.Changes rev changes) = true
 is_long (answer.Anchors rev anchors) = true
 is_long (answer.Places rev places) = true
+is_long (answer.Exported rev text) = true
 is_long (answer.Status applied settled state) = false
 is_long (answer.Peers peers sessions) = true
 is_long answer.Stopped = false

@@ -1,6 +1,7 @@
 //! What a session is answered.
 
 use crate::change_list::ChangeList;
+use crate::exported::Exported;
 use crate::lasting_list::LastingList;
 use crate::peer_list::PeerList;
 use crate::place_list::PlaceList;
@@ -39,6 +40,11 @@ pub enum Answer {
     Places {
         rev: u64,
         places: PlaceList,
+    },
+    /// A document as other programs read it, and how many operations it has.
+    Exported {
+        rev: u64,
+        text: Exported,
     },
     /// How many operations are applied, how many of them are settled, and whether edits are taken.
     Status {

@@ -3,17 +3,18 @@ ghost use Rattle.std.specs.Prelude.{◌≡◌, ◌≤◌, ◌+◌, ◌++◌, IsT
 ghost use Rattle.std.specs.Prelude.{vec_len, vec_capacity};
 ghost use Rattle.session_lines.specs.Putting.{Puts};
 ghost use Rattle.session_lines.specs.Saying.{said, is_long, said_text, said_listed, said_connected};
-ghost use Rattle.session_lines.specs.Saying.{said_changed, said_named, said_standing};
+ghost use Rattle.session_lines.specs.Saying.{said_changed, said_exported, said_named, said_standing};
 
 use crate::answer::Answer;
 use crate::change_list::ChangeList;
 use crate::changes::put_changes;
+use crate::exported::Exported;
 use crate::lasting_list::LastingList;
 use crate::peer_list::PeerList;
 use crate::peers::{put_number, put_peers};
 use crate::place_list::PlaceList;
 use crate::places::{put_anchors, put_places};
-use crate::quoted::{put, put_characters};
+use crate::quoted::{put, put_characters, put_quoted_bytes};
 use crate::short_line::{SHORT, put_done, put_edited, put_refused, put_refused_at, put_status};
 use crate::span_list::SpanList;
 use crate::spans::put_spans;
@@ -23,7 +24,8 @@ use std::alloc::{AllocError, Global};
 
 /// Puts an answer as text behind what is there: compact JSON with its keys in the order of their
 /// bytes, and a line feed. An error is out of memory (1), and leaves what is there as it was; where
-/// there is room for 128 bytes, it comes for a text, spans, changes, places or peers alone. The
+/// there is room for 128 bytes, it comes for an answer alone that shows what a document has, or who
+/// is linked. The
 /// time is that of the text's length, and nothing but `out` takes memory.
 pub fn say(_alloc: Global, answer: &Answer, out: &mut Vec<u8>) -> Result<(), AllocError>
     ensures ok { OnOk result (out.new.items ≡ out.old.items ++ said answer.now) }
@@ -54,6 +56,7 @@ fn put_answer(answer: &Answer, out: &mut Vec<u8>) -> Result<(), AllocError>
         Answer::Anchors { rev, anchors } => put_named(*rev, anchors, out)?,
         Answer::Places { rev, places } => put_standing(*rev, places, out)?,
         Answer::Peers { peers, sessions } => put_connected(peers, *sessions, out)?,
+        Answer::Exported { rev, text } => put_exported(*rev, text, out)?,
         Answer::Edited { rev } => put_edited(*rev, out),
         Answer::Status {
             applied,
@@ -86,6 +89,17 @@ fn put_listed(rev: u64, spans: &SpanList, out: &mut Vec<u8>) -> Result<(), Alloc
     put(Buffer::new().format(rev).as_bytes(), out)?;
     put(b",\"spans\":[", out)?;
     put_spans(spans.as_slice(), out)?;
+    put(b"}\n", out)
+}
+
+/// Puts the answer that has a document as other programs read it.
+fn put_exported(rev: u64, text: &Exported, out: &mut Vec<u8>) -> Result<(), AllocError>
+    ensures { Puts result out.old out.new (said_exported rev text.now) }
+{
+    put(b"{\"ok\":true,\"rev\":", out)?;
+    put_number(rev, out)?;
+    put(b",\"text\":", out)?;
+    put_quoted_bytes(text.as_slice(), out)?;
     put(b"}\n", out)
 }
 

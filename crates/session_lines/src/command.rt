@@ -1,8 +1,9 @@
 //! What a line asks for.
 use crate::lasting_list::LastingList;
 use crate::numbers::Numbers;
-use op_model::Neighbour;
+use op_model::{EditText, Neighbour};
 use placed_edits::PlacedAction;
+use span_export::Form;
 
 /// What a line of a session asks for.
 #[derive(Debug, Drop)]
@@ -33,6 +34,17 @@ pub enum Command {
     Places {
         doc: u32,
         anchors: LastingList,
+    },
+    /// Where a text stands in a document, from so many characters on.
+    Find {
+        doc: u32,
+        text: EditText,
+        from: u32,
+    },
+    /// A document, by its number from 1 on, as other programs read it.
+    Export {
+        doc: u32,
+        form: Form,
     },
     /// How far the replica is.
     Status,

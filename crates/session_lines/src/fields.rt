@@ -3,8 +3,9 @@ ghost use Rattle.std.specs.Prelude.{◌≡◌, ◌||◌, ◌++◌, map, string_b
 ghost use Rattle.std.specs.List.{list_any, list_all};
 ghost use Rattle.std.specs.Str.{bytes_eq};
 ghost use Rattle.std.specs.BTreeMap.{keys};
+ghost use Rattle.serde_json.specs.Find.{get};
 ghost use Rattle.serde_json.specs.View.{view};
-ghost use Rattle.session_lines.specs.Fields.{Reads, only, as_whole, whole, rev_of, count_of};
+ghost use Rattle.session_lines.specs.Fields.{Reads, only, as_whole, whole, if_whole, rev_of, count_of};
 ghost use Rattle.session_lines.specs.Fields.{characters_of, kind_of, url_of, comment_of};
 ghost use Rattle.session_lines.specs.Fields.{token_named, token_of};
 
@@ -88,9 +89,16 @@ pub(crate) fn whole(value: &Value, key: &str, low: u32) -> Result<u32, Refusal>
 pub(crate) fn rev(value: &Value) -> Result<Option<u32>, Refusal>
     ensures { Reads result (rev_of (view value.now)) }
 {
-    match value.get("rev") {
+    optional(value, "rev")
+}
+
+/// The field of this name, a whole number, if there is one.
+pub(crate) fn optional(value: &Value, key: &str) -> Result<Option<u32>, Refusal>
+    ensures { Reads result (if_whole (get key.now (view value.now))) }
+{
+    match value.get(key) {
         Some(found) => match as_whole(found, 0) {
-            Some(rev) => Ok(Some(rev)),
+            Some(number) => Ok(Some(number)),
             None => Err(Refusal::Field),
         },
         None => Ok(None),

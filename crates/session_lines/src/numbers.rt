@@ -3,7 +3,8 @@ ghost use Rattle.std.specs.Prelude.{◌≡◌};
 
 use std::marker::Model;
 
-/// Numbers of visible characters before places of a text. Contracts see the list of them.
+/// Numbers of visible characters before places of a text, or of documents. Contracts see the list
+/// of them.
 #[derive(Debug, Drop)]
 pub struct Numbers {
     numbers: Vec<u32>,

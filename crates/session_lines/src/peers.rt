@@ -1,7 +1,8 @@
 //! The peers that are linked, as JSON.
 ghost use Rattle.std.specs.Prelude.{false, decimal};
 ghost use Rattle.session_lines.specs.Putting.{Puts};
-ghost use Rattle.session_lines.specs.Saying.{said_peer, said_peers, said_replica};
+ghost use Rattle.session_lines.specs.Saying.{said_peer, said_peers};
+ghost use Rattle.session_lines.specs.Words.{said_replica};
 
 use crate::quoted::{comma, put, put_quoted};
 use itoa::Buffer;

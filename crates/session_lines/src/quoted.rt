@@ -2,7 +2,8 @@
 ghost use Rattle.std.specs.Prelude.{◌≡◌, ◌<◌, [], ◌∷◌, encode_utf8_all};
 ghost use Rattle.std.specs.Char.{digit_char};
 ghost use Rattle.session_lines.specs.Putting.{Puts, inside};
-ghost use Rattle.session_lines.specs.Saying.{comma_after, quoted, said_characters};
+ghost use Rattle.session_lines.specs.Saying.{said_characters};
+ghost use Rattle.session_lines.specs.Words.{comma_after, quoted};
 
 use std::alloc::AllocError;
 
@@ -65,6 +66,15 @@ pub(crate) fn put_quoted(text: &str, out: &mut Vec<u8>) -> Result<(), AllocError
 {
     put(b"\"", out)?;
     put_inside(text.as_bytes(), out)?;
+    put(b"\"", out)
+}
+
+/// Puts bytes of UTF-8 as a JSON string.
+pub(crate) fn put_quoted_bytes(bytes: &[u8], out: &mut Vec<u8>) -> Result<(), AllocError>
+    ensures { Puts result out.old out.new (quoted bytes.now) }
+{
+    put(b"\"", out)?;
+    put_inside(bytes, out)?;
     put(b"\"", out)
 }
 

@@ -9,6 +9,7 @@ use crate::command::Command;
 use crate::edits::edits;
 use crate::fields::{only, rev, token, whole};
 use crate::one_change::change;
+use crate::reading::{export, find};
 use crate::refusal::Refusal;
 use crate::several::{self, numbers, side};
 use crate::verb::Verb;
@@ -34,6 +35,8 @@ pub(crate) fn request(alloc: Global, value: &Value) -> Result<Command, Refusal>
         Verb::Changes => changes(value),
         Verb::Anchors => anchors(alloc, value),
         Verb::Places => places(alloc, value),
+        Verb::Find => find(alloc, value),
+        Verb::Export => export(value),
         Verb::Status => {
             only(value, &["op"])?;
             Ok(Command::Status)

@@ -4,6 +4,7 @@ ghost use Rattle.serde_json.specs.View.{items_view, view};
 ghost use Rattle.session_lines.specs.Fields.{Reads, as_whole, or_field};
 ghost use Rattle.session_lines.specs.Several.{anchors_of, as_lasting, each, numbers_of};
 ghost use Rattle.session_lines.specs.Several.{side_named, side_of};
+ghost use Rattle.session_lines.specs.Watches.{documents_of};
 
 use crate::anchor_text::lasting;
 use crate::fields::as_whole;
@@ -17,6 +18,9 @@ use std::alloc::{AllocError, Global};
 /// How many places one request asks for at most.
 pub const MAX_PLACES: usize = 256;
 
+/// How many documents one request watches at most: as many as a file has.
+pub const MAX_WATCHED: usize = 1_024;
+
 /// The numbers of visible characters before some places. An error is out of memory, or no list of 1
 /// to 256 whole numbers.
 pub(crate) fn numbers(alloc: Global, value: &Value) -> Result<Numbers, Refusal>
@@ -25,7 +29,7 @@ pub(crate) fn numbers(alloc: Global, value: &Value) -> Result<Numbers, Refusal>
     let Some(items) = value.get("at").and_then(Value::as_array) else {
         return Err(Refusal::Field);
     };
-    let numbers = each_number(alloc, items)?;
+    let numbers = each_number(alloc, items, 0)?;
     if !is_some(numbers.as_slice().len()) {
         return Err(Refusal::Field);
     }
@@ -44,6 +48,22 @@ pub(crate) fn anchors(alloc: Global, value: &Value) -> Result<LastingList, Refus
         return Err(Refusal::Field);
     }
     Ok(anchors)
+}
+
+/// The documents that are watched. An error is out of memory, or no list of 1 to 1,024 whole
+/// numbers from 1 on.
+pub(crate) fn documents(alloc: Global, value: &Value) -> Result<Numbers, Refusal>
+    ensures { Reads result (documents_of (view value.now)) }
+{
+    let Some(items) = value.as_array() else {
+        return Err(Refusal::Field);
+    };
+    let numbers = each_number(alloc, items, 1)?;
+    let count = numbers.as_slice().len();
+    if count < 1 || MAX_WATCHED < count {
+        return Err(Refusal::Field);
+    }
+    Ok(numbers)
 }
 
 /// The neighbour that places stay with.
@@ -75,13 +95,13 @@ fn is_some(count: usize) -> bool
     1 <= count && count <= MAX_PLACES
 }
 
-/// All of these values as whole numbers.
-fn each_number(alloc: Global, items: &[Value]) -> Result<Numbers, Refusal>
-    ensures { Reads result (or_field (each (as_whole 0) (items_view items.now))) }
+/// All of these values as whole numbers from this one on.
+fn each_number(alloc: Global, items: &[Value], low: u32) -> Result<Numbers, Refusal>
+    ensures { Reads result (or_field (each (as_whole low) (items_view items.now))) }
 {
     let mut numbers = Vec::with_capacity(alloc, items.len())?;
     for item in items {
-        let Some(number) = as_whole(item, 0) else {
+        let Some(number) = as_whole(item, low) else {
             return Err(Refusal::Field);
         };
         numbers.push(number).map_err(AllocError::from)?;

@@ -1,6 +1,7 @@
 //! The answers that need no memory of their own, put where there is room for them.
 ghost use Rattle.std.specs.Prelude.{◌≡◌, ◌++◌, ◌+◌, ◌≤◌, length, decimal, vec_len, vec_capacity};
 ghost use Rattle.session_lines.specs.Saying.{said_edited, said_status, said_refused, said_done};
+ghost use Rattle.session_lines.specs.Saying.{said_watched};
 ghost use Rattle.session_lines.specs.Saying.{said_refused_at, state_word};
 
 use crate::answer::State;
@@ -37,6 +38,20 @@ pub(crate) fn put_edited(rev: u64, out: &mut Vec<u8>)
     ensures capacity { vec_capacity out.old ≤ vec_capacity out.new }
 {
     put(b"{\"ok\":true,\"rev\":", out);
+    put_number(rev, out);
+    put(b"}\n", out);
+}
+
+/// Puts the line that tells how many settled operations a document has, one of several that are
+/// watched, by its number from 1 on.
+pub fn put_watched(doc: u32, rev: u64, out: &mut Vec<u8>)
+    requires { vec_len out.old + SHORT ≤ vec_capacity out.old }
+    ensures items { out.new.items ≡ out.old.items ++ said_watched doc rev }
+    ensures capacity { vec_capacity out.old ≤ vec_capacity out.new }
+{
+    put(b"{\"doc\":", out);
+    put_number(doc as u64, out);
+    put(b",\"ok\":true,\"rev\":", out);
     put_number(rev, out);
     put(b"}\n", out);
 }

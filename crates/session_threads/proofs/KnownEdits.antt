@@ -11,7 +11,7 @@ use Rattle.locked_replica.specs.Hub.{Parts, state_of}
 use Rattle.locked_replica.specs.Run.{Calls}
 use Rattle.session_lines.specs.Saying.{number_of}
 use Rattle.session_lines.specs.declared.answer.Answer.{Answer}
-use Rattle.session_lines.specs.declared.answer.Answer.TheVariants.{Edited, Text, Spans, Changes, Anchors, Places}
+use Rattle.session_lines.specs.declared.answer.Answer.TheVariants.{Edited, Text, Spans, Changes, Anchors, Places, Exported}
 use Rattle.session_lines.specs.declared.answer.Answer.TheVariants.{Status, Peers, Stopped, Done, Refused, RefusedAt}
 use Rattle.session_threads.specs.ActsOnce.{ChangesNothing}
 use Rattle.session_threads.specs.HeldDesk.{HeldDesk}
@@ -81,6 +81,7 @@ module _ {D : Type 0} (facts : Ghosts D) where
   answered_known session old new e t (Changes rev changes) found settled never = absurd never
   answered_known session old new e t (Anchors rev anchors) found settled never = absurd never
   answered_known session old new e t (Places rev places) found settled never = absurd never
+  answered_known session old new e t (Exported rev bytes) found settled never = absurd never
   answered_known session old new e t (Status applied n s) found settled never = absurd never
   answered_known session old new e t (Peers peers sessions) found settled never = absurd never
   answered_known session old new e t Stopped found settled never = absurd never

@@ -7,7 +7,7 @@ use Rattle.locked_replica.specs.Calls.{IsCall}
 use Rattle.locked_replica.specs.Hub.{Parts, state_of}
 use Rattle.session_lines.specs.Saying.{number_of}
 use Rattle.session_lines.specs.declared.answer.Answer.{Answer}
-use Rattle.session_lines.specs.declared.answer.Answer.TheVariants.{Edited, Text, Spans, Changes, Anchors, Places}
+use Rattle.session_lines.specs.declared.answer.Answer.TheVariants.{Edited, Text, Spans, Changes, Anchors, Places, Exported}
 use Rattle.session_lines.specs.declared.answer.Answer.TheVariants.{Status, Peers, Stopped, Done, Refused, RefusedAt}
 use Rattle.session_lines.specs.declared.refusal.Refusal.{Refusal}
 use Rattle.session_lines.specs.declared.refusal.Refusal.TheVariants.{Failed}
@@ -31,6 +31,7 @@ module _ {D : Type 0} (facts : Ghosts D) where
   answered session old between new e t (Changes rev changes) call never = absurd never
   answered session old between new e t (Anchors rev anchors) call never = absurd never
   answered session old between new e t (Places rev places) call never = absurd never
+  answered session old between new e t (Exported rev bytes) call never = absurd never
   answered session old between new e t (Status applied settled s) call never = absurd never
   answered session old between new e t (Peers peers sessions) call never = absurd never
   answered session old between new e t Stopped call never = absurd never

@@ -10,7 +10,7 @@ use Rattle.session_lines.specs.Saying.{number_of}
 use Rattle.session_lines.specs.declared.command.Command.{Command}
 use Rattle.session_lines.specs.declared.command.Command.TheVariants as command
 use Rattle.session_lines.specs.declared.answer.Answer.{Answer}
-use Rattle.session_lines.specs.declared.answer.Answer.TheVariants.{Edited, Text, Spans, Changes, Anchors, Places}
+use Rattle.session_lines.specs.declared.answer.Answer.TheVariants.{Edited, Text, Spans, Changes, Anchors, Places, Exported}
 use Rattle.session_lines.specs.declared.answer.Answer.TheVariants.{Status, Peers, Stopped, Done, Refused, RefusedAt}
 use Rattle.session_lines.specs.declared.refusal.Refusal.{Refusal}
 use Rattle.session_threads.specs.Exchanges.{IsAnswered, Exchange, Exchanges}
@@ -36,6 +36,7 @@ module _ {D : Type 0} (facts : Ghosts D) where
   edit_goes session old new e (Changes rev changes) never = absurd never
   edit_goes session old new e (Anchors rev anchors) never = absurd never
   edit_goes session old new e (Places rev places) never = absurd never
+  edit_goes session old new e (Exported rev bytes) never = absurd never
   edit_goes session old new e (Status applied settled s) never = absurd never
   edit_goes session old new e (Peers peers sessions) never = absurd never
   edit_goes session old new e Stopped never = absurd never
@@ -57,6 +58,8 @@ module _ {D : Type 0} (facts : Ghosts D) where
   command_goes old new (command.Changes doc since) answer (said, same) = stays old new same
   command_goes old new (command.Anchors doc at side) answer (said, same) = stays old new same
   command_goes old new (command.Places doc anchors) answer (said, same) = stays old new same
+  command_goes old new (command.Find doc text from) answer (said, same) = stays old new same
+  command_goes old new (command.Export doc form) answer (said, same) = stays old new same
   command_goes old new command.Status answer (said, same) = stays old new same
   command_goes old new command.Peers answer (said, same) = stays old new same
   command_goes old new command.Stop answer (is_settled, said, commits, stopping) = (commits.calls.events, commits.calls.calls)

@@ -1,5 +1,5 @@
 -- What a desk over a hub answers to a command, and what it makes of the hub.
-use Rattle.std.specs.Prelude.{◌≡◌, ◌≢◌, ◌⊎◌, ℕ, ◌<◌, take, Bool, true, false, ◌&&◌, List, [], ◌∷◌, ◌++◌, length, if◌then◌else◌}
+use Rattle.std.specs.Prelude.{◌≡◌, ◌≢◌, ◌⊎◌, ℕ, ◌<◌, take, Bool, true, false, ◌&&◌, List, [], ◌∷◌, ◌++◌, length, map, if◌then◌else◌}
 use Rattle.std.specs.Prelude.{Option, Some, None, is_none}
 use Rattle.disk_trait.specs.declared.facts.DiskFacts.{Ghosts}
 use Rattle.op_model.specs.Actions.{Asked}
@@ -18,11 +18,15 @@ use Rattle.placed_edits.specs.Placed.{Placed}
 use Rattle.replica_core.specs.Changed.{AreChangesSince}
 use Rattle.replica_core.specs.Places.{anchors_of, are_within, places_of}
 use Rattle.replica_core.specs.RefusedAt.{place_told}
+use Rattle.span_export.specs.Exported.{exported}
+use Rattle.span_export.specs.declared.exporting.Form.{Form}
+use Rattle.text_search.specs.Places.{places_of as found_in}
 use Rattle.session_lines.specs.Saying.{number_of}
 use Rattle.session_lines.specs.declared.command.Command.{Command}
 use Rattle.session_lines.specs.declared.command.Command.TheVariants as command
 use Rattle.session_lines.specs.declared.answer.Answer.{Answer}
-use Rattle.session_lines.specs.declared.answer.Answer.TheVariants.{Edited, Text, Spans, Changes, Anchors, Places, Status, Peers, Stopped, Refused, RefusedAt}
+use Rattle.session_lines.specs.declared.answer.Answer.TheVariants.{Edited, Text, Spans, Changes, Anchors, Places, Exported}
+use Rattle.session_lines.specs.declared.answer.Answer.TheVariants.{Status, Peers, Stopped, Refused, RefusedAt}
 use Rattle.session_lines.specs.declared.answer.State.{State}
 use Rattle.session_lines.specs.declared.answer.State.TheVariants as state
 use Rattle.session_lines.specs.declared.refusal.Refusal.{Refusal}
@@ -42,6 +46,23 @@ abbrev pub ServesSpans : {D : Type 0} → HeldDesk D → ℕ → Answer → Type
 ServesSpans desk doc answer =
     let list = desk.hub.replica.list in
     (answer ≡ Spans (rev list doc) (spans list doc)) ⊎ (answer ≡ Refused Memory)
+
+-- where a text stands in a document of these operations
+abbrev pub found_answer : List Op → ℕ → List ℕ → ℕ → Answer
+found_answer list doc sought from = Places (rev list doc) (map (λ at. Some at) (found_in sought (text list doc) from))
+
+-- where a text stands in a document, or out of memory
+abbrev pub ServesFind : {D : Type 0} → HeldDesk D → ℕ → List ℕ → ℕ → Answer → Type 0
+ServesFind desk doc sought from answer =
+    (answer ≡ found_answer desk.hub.replica.list doc sought from) ⊎ (answer ≡ Refused Memory)
+
+-- a document of these operations as other programs read it
+abbrev pub exported_answer : List Op → ℕ → Form → Answer
+exported_answer list doc form = Exported (rev list doc) (exported form (spans list doc))
+
+-- a document as other programs read it, or out of memory
+abbrev pub ServesExport : {D : Type 0} → HeldDesk D → ℕ → Form → Answer → Type 0
+ServesExport desk doc form answer = (answer ≡ exported_answer desk.hub.replica.list doc form) ⊎ (answer ≡ Refused Memory)
 
 -- a document's number of operations isn't 0, and it had more when the hub was opened, or has fewer
 abbrev pub IsUnknownRev : ReplicaHeld → ℕ → ℕ → Type 0
@@ -174,6 +195,8 @@ module _ {D : Type 0} (facts : Ghosts D) where
   Serves old (command.Changes doc since) answer new = ServesChanges old doc since answer × (new ≡ old)
   Serves old (command.Anchors doc at side) answer new = ServesAnchors old doc at side answer × (new ≡ old)
   Serves old (command.Places doc anchors) answer new = ServesPlaces old doc anchors answer × (new ≡ old)
+  Serves old (command.Find doc text from) answer new = ServesFind old doc text from answer × (new ≡ old)
+  Serves old (command.Export doc form) answer new = ServesExport old doc form answer × (new ≡ old)
   Serves old command.Status answer new = ServesStatus old answer × (new ≡ old)
   Serves old command.Peers answer new = ServesPeers answer × (new ≡ old)
   Serves old command.Stop answer new = ServesStop old answer new

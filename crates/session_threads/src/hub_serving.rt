@@ -3,19 +3,22 @@ ghost use Rattle.std.specs.Prelude.{◌≡◌};
 ghost use Rattle.session_threads.specs.HubServing.{comes_too_late, ServesEdit, ServesPlaced, ServesText};
 ghost use Rattle.session_threads.specs.HubServing.{ServesSpans};
 ghost use Rattle.session_threads.specs.HubServing.{ServesChanges, ServesAnchors, ServesPlaces, ServesStatus};
+ghost use Rattle.session_threads.specs.HubServing.{ServesFind, ServesExport};
 ghost use Rattle.session_threads.specs.HubServing.{ServesPeers, ServesStop};
 
 use crate::committing::commit;
 use crate::desk::Desk;
 use crate::hub_desk::HubDesk;
 use crate::hub_edit::answer_edit;
+use crate::looking::{answer_export, answer_find};
 use disk_trait::Disk;
-use op_model::{Action, Neighbour};
+use op_model::{Action, EditText, Neighbour};
 use placed_edits::PlacedAction;
 use session_lines::{
     Answer, ChangeList, Command, LastingList, Numbers, PeerList, PlaceList, Refusal, SpanList,
     State,
 };
+use span_export::Form;
 use std::alloc::Global;
 
 impl<D: Disk> Desk for HubDesk<D> {
@@ -33,6 +36,8 @@ impl<D: Disk> Desk for HubDesk<D> {
             Command::Changes { doc, since } => self.changes(doc, since),
             Command::Anchors { doc, at, side } => self.anchors(doc, &at, side),
             Command::Places { doc, anchors } => self.places(doc, &anchors),
+            Command::Find { doc, text, from } => self.find(alloc, doc, &text, from),
+            Command::Export { doc, form } => self.export(alloc, doc, form),
             Command::Status => self.status(),
             Command::Peers => alone(alloc),
             Command::Stop => self.stop(),
@@ -139,6 +144,26 @@ impl<D: Disk> HubDesk<D> {
                 rev: self.hub.rev(doc) as u64,
                 places: PlaceList::from(places),
             },
+            Err(_) => Answer::Refused(Refusal::Memory),
+        }
+    }
+
+    /// Where a text stands in a document.
+    fn find(&self, alloc: Global, doc: u32, sought: &EditText, from: u32) -> Answer
+        ensures { ServesFind self.now doc sought.now from result }
+    {
+        match self.hub.text(doc) {
+            Ok(text) => answer_find(alloc, self.hub.rev(doc) as u64, &text, sought, from),
+            Err(_) => Answer::Refused(Refusal::Memory),
+        }
+    }
+
+    /// A document as other programs read it.
+    fn export(&self, alloc: Global, doc: u32, form: Form) -> Answer
+        ensures { ServesExport self.now doc form result }
+    {
+        match self.hub.spans(doc) {
+            Ok(spans) => answer_export(alloc, self.hub.rev(doc) as u64, &spans, form),
             Err(_) => Answer::Refused(Refusal::Memory),
         }
     }

@@ -15,6 +15,7 @@ mod hub_desk;
 mod hub_edit;
 mod hub_serving;
 mod laws;
+mod looking;
 mod pieces;
 mod refusing;
 mod room;
@@ -27,5 +28,6 @@ pub use laws::{
     a_session_is_a_run, answered_edits_stay, calls_are_a_run, edits_act_once,
     edits_fail_behind_a_failure, settled_edits_are_answered,
 };
+pub use looking::{answer_export, answer_find};
 pub use refusing::edit_refusal;
 pub use session::{Session, serve_lines};

@@ -14,14 +14,15 @@ use Rattle.session_lines.specs.Saying.{number_of}
 use Rattle.session_lines.specs.declared.command.Command.{Command}
 use Rattle.session_lines.specs.declared.command.Command.TheVariants as command
 use Rattle.session_lines.specs.declared.answer.Answer.{Answer}
-use Rattle.session_lines.specs.declared.answer.Answer.TheVariants.{Edited, Text, Spans, Changes, Anchors, Places}
+use Rattle.session_lines.specs.declared.answer.Answer.TheVariants.{Edited, Text, Spans, Changes, Anchors, Places, Exported}
 use Rattle.session_lines.specs.declared.answer.Answer.TheVariants.{Status, Peers, Stopped, Done, Refused, RefusedAt}
 use Rattle.session_lines.specs.declared.answer.State.{State}
 use Rattle.session_lines.specs.declared.answer.State.TheVariants as state
 use Rattle.session_lines.specs.declared.refusal.Refusal.{Refusal}
 use Rattle.session_lines.specs.declared.refusal.Refusal.TheVariants.{Memory, Failed, Stopping}
 use Rattle.replica_core.specs.Places.{places_of}
-use Rattle.session_threads.specs.HubServing.{anchors_answer, AnswersChanges}
+use Rattle.span_export.specs.declared.exporting.Form.{Form}
+use Rattle.session_threads.specs.HubServing.{anchors_answer, AnswersChanges, exported_answer, found_answer}
 use Rattle.session_threads.specs.HubCalls.{is_edit_refusal as is_hub_refusal}
 use Rattle.shared_hub.specs.Books.{PassHeld}
 use Rattle.shared_hub.specs.Guarded.{after_ticket}
@@ -70,6 +71,7 @@ ServesEdit old asks (Spans rev s) new = ⊥
 ServesEdit old asks (Changes rev changes) new = ⊥
 ServesEdit old asks (Anchors rev anchors) new = ⊥
 ServesEdit old asks (Places rev places) new = ⊥
+ServesEdit old asks (Exported rev bytes) new = ⊥
 ServesEdit old asks (Status applied settled s) new = ⊥
 ServesEdit old asks (Peers peers sessions) new = ⊥
 ServesEdit old asks Stopped new = ⊥
@@ -116,6 +118,20 @@ ServesPlaces old doc anchors answer new =
     × ((answer ≡ Refused Memory)
     ⊎ MomentOf old (λ l. answer ≡ Places (rev l.replica.list doc) (places_of l.replica.list doc anchors)))
 
+-- where a text stood in a document at some moment, or out of memory
+abbrev pub ServesFind : PassHeld → ℕ → List ℕ → ℕ → Answer → PassHeld → Type 0
+ServesFind old doc sought from answer new =
+    (new ≡ old)
+    × ((answer ≡ Refused Memory)
+    ⊎ MomentOf old (λ l. answer ≡ found_answer l.replica.list doc sought from))
+
+-- a document of some moment as other programs read it, or out of memory
+abbrev pub ServesExport : PassHeld → ℕ → Form → Answer → PassHeld → Type 0
+ServesExport old doc form answer new =
+    (new ≡ old)
+    × ((answer ≡ Refused Memory)
+    ⊎ MomentOf old (λ l. answer ≡ exported_answer l.replica.list doc form))
+
 -- whether edits are taken: a failure that was told goes before a stop
 abbrev pub state_in : Bool → Bool → State
 state_in true stopping = state.Failed
@@ -152,6 +168,8 @@ Serves old (command.Spans doc) answer new = ServesSpans old doc answer new
 Serves old (command.Changes doc since) answer new = ServesChanges old doc since answer new
 Serves old (command.Anchors doc at side) answer new = ServesAnchors old doc at side answer new
 Serves old (command.Places doc anchors) answer new = ServesPlaces old doc anchors answer new
+Serves old (command.Find doc text from) answer new = ServesFind old doc text from answer new
+Serves old (command.Export doc form) answer new = ServesExport old doc form answer new
 Serves old command.Status answer new = ServesStatus old answer new
 Serves old command.Peers answer new = ServesPeers old answer new
 Serves old command.Stop answer new = ServesStop old answer new

@@ -8,20 +8,22 @@ ghost use Rattle.session_threads.specs.HubServing.{refused_answer as refused_ans
 ghost use Rattle.shared_hub.specs.Refusal.{number_of as number_of_shared};
 ghost use Rattle.shared_hub.specs.declared.refusal.SharedRefusal.TheVariants.{Stopping as AskedToStop};
 ghost use Rattle.shared_desk.specs.Serving.{is_edit_refusal, ServesPlaced, ServesText, ServesSpans, ServesChanges, ServesAnchors, ServesPlaces};
+ghost use Rattle.shared_desk.specs.Serving.{ServesFind, ServesExport};
 ghost use Rattle.shared_desk.specs.Serving.{ServesStatus, ServesPeers, ServesStop};
 
 use crate::desk::SharedDesk;
 use crate::ending::End;
 use hub_parts::LockedRefusal;
-use op_model::Neighbour;
+use op_model::{EditText, Neighbour};
 use pass_books::BookNames;
 use placed_edits::PlacedAction;
 use session_lines::{
     Answer, ChangeList, Command, LastingList, Numbers, PeerList, PlaceList, Refusal, SpanList,
     State,
 };
-use session_threads::{Desk, edit_refusal};
+use session_threads::{Desk, answer_export, answer_find, edit_refusal};
 use shared_hub::{Checkpoint, Point, SharedRefusal, Shown};
+use span_export::Form;
 use std::alloc::Global;
 use std::sync::Wait;
 
@@ -42,6 +44,8 @@ impl<'a, R: Wait, J: BookNames, C: Checkpoint> Desk for SharedDesk<'a, R, J, C> 
             Command::Changes { doc, since } => self.changes(doc, since),
             Command::Anchors { doc, at, side } => self.anchors(doc, &at, side),
             Command::Places { doc, anchors } => self.places(doc, &anchors),
+            Command::Find { doc, text, from } => self.find(alloc, doc, &text, from),
+            Command::Export { doc, form } => self.export(alloc, doc, form),
             Command::Status => self.status(),
             Command::Peers => self.peers(alloc),
             Command::Stop => self.stop(),
@@ -163,6 +167,36 @@ impl<'a, R: Wait, J: BookNames, C: Checkpoint> SharedDesk<'a, R, J, C> {
                 rev,
                 places: PlaceList::from(content),
             },
+            Err(_) => Answer::Refused(Refusal::Memory),
+        }
+    }
+
+    /// Where a text stands in a document. Its text is read in turn with others who read; what looks
+    /// through it holds neither the turn nor the lock.
+    fn find(&mut self, alloc: Global, doc: u32, sought: &EditText, from: u32) -> Answer
+        ensures { ServesFind self.old doc sought.now from result self.new }
+    {
+        let (rt, shared) = (self.daemon.rt, self.daemon.shared);
+        let turn = self.daemon.read_turn.lock(rt);
+        let read = shared.text(rt, &mut self.pass, doc);
+        drop(turn);
+        match read {
+            Ok(Shown { rev, content }) => answer_find(alloc, rev, &content, sought, from),
+            Err(_) => Answer::Refused(Refusal::Memory),
+        }
+    }
+
+    /// A document as other programs read it. Its spans are read in turn with others who read, and
+    /// written in this form without the turn and the lock.
+    fn export(&mut self, alloc: Global, doc: u32, form: Form) -> Answer
+        ensures { ServesExport self.old doc form result self.new }
+    {
+        let (rt, shared) = (self.daemon.rt, self.daemon.shared);
+        let turn = self.daemon.read_turn.lock(rt);
+        let read = shared.spans(rt, &mut self.pass, doc);
+        drop(turn);
+        match read {
+            Ok(Shown { rev, content }) => answer_export(alloc, rev, &content, form),
             Err(_) => Answer::Refused(Refusal::Memory),
         }
     }

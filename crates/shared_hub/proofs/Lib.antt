@@ -11,3 +11,4 @@ pub mod PromiseLemmas
 mod RefusedLemmas
 mod AskedLemmas
 mod WatchLemmas
+mod LookLemmas

@@ -9,3 +9,4 @@ pub mod Promises
 pub mod Refusal
 pub mod Shared
 pub mod Watching
+pub mod WatchingSeveral

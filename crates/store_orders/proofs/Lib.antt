@@ -1,1 +1,2 @@
+mod CheckingLemmas
 mod ShowingLemmas

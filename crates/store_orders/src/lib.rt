@@ -3,6 +3,7 @@
 //! It takes any disk, reader and writers, so whole runs of the program are tested in memory.
 #![tactic(auto)]
 
+mod checking;
 mod ended;
 mod explaining;
 mod fault;
@@ -12,6 +13,7 @@ mod printing;
 mod sentence;
 mod showing;
 
+pub use checking::{check, show_check};
 pub use ended::{Ended, status};
 pub use explaining::{Place, explain};
 pub use fault::Fault;

@@ -1,12 +1,14 @@
 //! What is told of all documents of a replica, and of the room in its file.
 ghost use Rattle.std.specs.Prelude.{◌≡◌, ◌++◌, flat_map, IfOk, IfErr, OnOk};
 ghost use Rattle.op_model.specs.Causality.{documents};
+ghost use Rattle.file_listing.specs.Checked.{said_check};
 ghost use Rattle.file_listing.specs.Listing.{document_line, room_of, said_listing};
 ghost use Rattle.store_orders.specs.declared.fault.Fault.TheVariants.{Memory};
 
 use crate::fault::Fault;
-use file_listing::{FileRoom, documents, put_document, put_room};
+use file_listing::{FileRoom, documents, put_check, put_document, put_room};
 use replica_core::Replica;
+use root_reports::SlotReport;
 use std::alloc::{AllocError, Global};
 
 /// A line for each document that has operations, in rising order, and one for the room in the file.
@@ -20,6 +22,23 @@ pub(crate) fn listing(alloc: Global, replica: &Replica) -> Result<Vec<u8>, Fault
     put_documents(replica, &numbers, &mut lines)?;
     put_room(room(replica, &numbers), &mut lines)?;
     Ok(lines)
+}
+
+/// The line of a file that was checked, of which the root slots say this. `Memory` (1) where a
+/// growth was refused. Costs what it takes to go over the operations.
+pub(crate) fn check_line(
+    alloc: Global,
+    replica: &Replica,
+    report: &SlotReport,
+) -> Result<Vec<u8>, Fault>
+    ensures ok { IfOk result (λ line.
+        line.items ≡ said_check (room_of replica.now.list) report.now) }
+    ensures err { IfErr result (λ fault. fault ≡ Memory) }
+{
+    let numbers = documents(alloc, &replica.list())?;
+    let mut line = Vec::new(alloc);
+    put_check(room(replica, &numbers), report, &mut line)?;
+    Ok(line)
 }
 
 /// Puts a line for each of these documents. An error is out of memory (1).

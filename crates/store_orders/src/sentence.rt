@@ -89,9 +89,16 @@ pub enum Sentence {
     /// 70: `--link` names a port of the daemon itself.
     #[error("that is a port of this daemon itself; name the one behind --peers of another")]
     OwnPort,
+    /// 70: nobody takes a connection where `ask` points.
+    #[error("no daemon listens there; start it first, or name the port behind its --sessions")]
+    NoDaemon,
     /// 71
     #[error("standard input or output failed; look at the other end of the pipe")]
     Stream,
+    /// 71: the daemon ended before it answered `ask`.
+    #[error("the daemon ended before it answered; an edit that wasn't answered may be there or \
+        not")]
+    Unanswered,
 }
 
 impl From<Fault> for Sentence {

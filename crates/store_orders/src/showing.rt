@@ -73,7 +73,7 @@ pub fn show_in<D: Disk>(alloc: Global, disk: D, doc: u32, form: Form) -> Shown<D
 }
 
 /// Nothing is shown of a file that can't be opened.
-fn unopened<D: Disk>(fault: OpenFault<D>) -> Shown<D>
+pub(crate) fn unopened<D: Disk>(fault: OpenFault<D>) -> Shown<D>
     ensures lines { IsErrAnd result.lines (λ told. number_of told ≡ number_of_open fault.cause) }
     ensures disk { result.disk ≡ fault.disk }
 {
@@ -150,7 +150,7 @@ pub fn export_from<R: Files<File = File> + AllocGlobal, W: Write>(
 }
 
 /// A file that is only read. `OpenFailed` (54) where it can't be opened, or another one has it.
-fn opened<R: Files<File = File>>(rt: &R, path: &str) -> Result<FileDisk, Fault> {
+pub(crate) fn opened<R: Files<File = File>>(rt: &R, path: &str) -> Result<FileDisk, Fault> {
     match FileDisk::open_to_read(rt, path) {
         Ok(disk) => Ok(disk),
         Err(_) => Err(Fault::OpenFailed),

@@ -50,7 +50,7 @@ const SPANS_BA: &str = "{\"ok\":true,\"rev\":2,\"spans\":[{\"text\":\"ba\"}]}";
 const TEXT_BA: &str = "{\"ok\":true,\"rev\":2,\"text\":\"ba\"}";
 
 /// What is answered to the session that edits while the other one's commit is under way.
-const OF_THE_SECOND: [(&str, &str); 9] = [
+const OF_THE_SECOND: [(&str, &str); 11] = [
     (INSERT_B, REV_2),
     (TEXT, TEXT_BA),
     (SPANS, SPANS_BA),
@@ -65,6 +65,14 @@ const OF_THE_SECOND: [(&str, &str); 9] = [
     (
         "{\"op\":\"places\",\"doc\":1,\"anchors\":[\"start\",\"end\"]}",
         "{\"ok\":true,\"places\":[0,2],\"rev\":2}",
+    ),
+    (
+        "{\"op\":\"find\",\"doc\":1,\"text\":\"a\"}",
+        "{\"ok\":true,\"places\":[1],\"rev\":2}",
+    ),
+    (
+        "{\"op\":\"export\",\"doc\":1,\"to\":\"text\"}",
+        "{\"ok\":true,\"rev\":2,\"text\":\"ba\"}",
     ),
     (TWO_AT_ONCE, "{\"ok\":true,\"rev\":4}"),
     (SECOND_REFUSED, SECOND_IS_REFUSED),

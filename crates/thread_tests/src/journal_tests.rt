@@ -1,5 +1,5 @@
 //! Lines to the letter, and writers that take nothing.
-use event_journal::{About, Cause, Event, Journal, LinkPlace, Reason, Telling};
+use event_journal::{About, Cause, Entrance, Event, Journal, LinkPlace, Reason, Telling};
 use op_ids::ReplicaId;
 use std::alloc::Global;
 use std::rt::Clock;
@@ -35,6 +35,8 @@ fn first_replica() -> Result<ReplicaId, Fail> {
 
 #[test]
 fn a_daemon_is_a_line(rt: HostRuntime) -> Result<(), Fail> {
+    // The kit's borrow checker looks up the types that an event holds by the names in a function.
+    let _: Option<Entrance<'static>> = None;
     let listening = Event::Listening {
         file: "my \"notes\"\n",
         replica: first_replica()?,
@@ -67,14 +69,19 @@ fn a_daemon_is_a_line(rt: HostRuntime) -> Result<(), Fail> {
 #[test]
 fn a_session_is_a_line(rt: HostRuntime) -> Result<(), Fail> {
     let reason = FAILED;
-    let up = Event::SessionUp { session: 7 };
-    let line = "event=session_up session=7\n";
+    let door = Entrance::Sessions;
+    let up = Event::SessionUp { session: 7, door };
+    let line = "event=session_up session=7 door=sessions\n";
     assert!(rt; is_told(&rt, rt.alloc(), &up, line));
-    let down = Event::SessionDown { session: 7, reason };
+    let down = Event::SessionDown {
+        session: 7,
+        reason,
+        close: None,
+    };
     let line = "event=session_down session=7 code=9 reason=failed\n";
     assert!(rt; is_told(&rt, rt.alloc(), &down, line));
-    let refused = Event::SessionRefused { reason };
-    let line = "event=session_refused code=9 reason=failed\n";
+    let refused = Event::SessionRefused { door, reason };
+    let line = "event=session_refused door=sessions code=9 reason=failed\n";
     assert!(rt; is_told(&rt, rt.alloc(), &refused, line));
     let cause = None;
     let end = Event::End { reason, cause };
@@ -84,7 +91,31 @@ fn a_session_is_a_line(rt: HostRuntime) -> Result<(), Fail> {
 }
 
 #[test]
+fn a_web_session_is_a_line(rt: HostRuntime) {
+    let origin = Some("http://localhost:8080");
+    let door = Entrance::Web { origin };
+    let up = Event::SessionUp { session: 7, door };
+    let line = "event=session_up session=7 door=web origin=http://localhost:8080\n";
+    assert!(rt; is_told(&rt, rt.alloc(), &up, line));
+    let reason = FAILED;
+    let close = Some(1_001);
+    let down = Event::SessionDown {
+        session: 7,
+        reason,
+        close,
+    };
+    let line = "event=session_down session=7 code=9 reason=failed close=1001\n";
+    assert!(rt; is_told(&rt, rt.alloc(), &down, line));
+    let door = Entrance::Web { origin: None };
+    let refused = Event::SessionRefused { door, reason };
+    let line = "event=session_refused door=web code=9 reason=failed\n";
+    assert!(rt; is_told(&rt, rt.alloc(), &refused, line));
+}
+
+#[test]
 fn a_link_is_a_line(rt: HostRuntime) -> Result<(), Fail> {
+    // The kit's borrow checker looks up the types that an event holds by the names in a function.
+    let _: Option<Entrance<'static>> = None;
     let replica = first_replica()?;
     let place = PLACE;
     let reason = Reason {
@@ -114,11 +145,18 @@ fn a_link_is_a_line(rt: HostRuntime) -> Result<(), Fail> {
 
 #[test]
 fn lines_without_room_are_counted(rt: HostRuntime) -> Result<(), Fail> {
+    // The kit's borrow checker looks up the types that an event holds by the names in a function.
+    let _: Option<Entrance<'static>> = None;
     let alloc = rt.alloc();
     let journal = Journal::new(alloc, Telling::All);
     for session in 0..300 {
-        let reason = FAILED;
-        journal.tell(&rt, &Event::SessionDown { session, reason });
+        let (reason, close) = (FAILED, None);
+        let down = Event::SessionDown {
+            session,
+            reason,
+            close,
+        };
+        journal.tell(&rt, &down);
     }
     let (reason, cause) = (FAILED, None);
     journal.tell(&rt, &Event::End { reason, cause });
@@ -132,6 +170,8 @@ fn lines_without_room_are_counted(rt: HostRuntime) -> Result<(), Fail> {
 
 #[test]
 fn in_brief_little_is_told(rt: HostRuntime) -> Result<(), Fail> {
+    // The kit's borrow checker looks up the types that an event holds by the names in a function.
+    let _: Option<Entrance<'static>> = None;
     let alloc = rt.alloc();
     let journal = Journal::new(alloc, Telling::Brief);
     journal.tell(&rt, &Event::OpenedAnew);

@@ -17,6 +17,8 @@ mod journal_tests;
 #[cfg(test)]
 mod link_tests;
 #[cfg(test)]
+mod several_tests;
+#[cfg(test)]
 mod shared_tests;
 #[cfg(test)]
 mod test_daemons;

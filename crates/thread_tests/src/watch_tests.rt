@@ -17,7 +17,7 @@ use std::time::Duration;
 const LONG: u64 = 60;
 
 /// Edits a document, and waits for the settlement.
-fn settle_edit<J: BookNames, R: Wait>(
+pub fn settle_edit<J: BookNames, R: Wait>(
     rt: &R,
     alloc: Global,
     shared: &Shared<J>,

@@ -1,8 +1,8 @@
 //! The room of one line.
 ghost use Rattle.std.specs.Prelude.{◌≡◌, ◌≤◌, false, List, ℕ, vec_capacity};
-ghost use Rattle.session_lines.specs.Saying.{said, is_long};
+ghost use Rattle.session_lines.specs.Saying.{said, said_watched, is_long};
 
-use session_lines::{Answer, say};
+use session_lines::{Answer, put_watched, say};
 use std::alloc::{AllocError, Global};
 use std::marker::Model;
 
@@ -45,5 +45,13 @@ impl LineRoom {
     {
         self.text.clear();
         let _ = say(alloc, answer, &mut self.text);
+    }
+
+    /// Makes this the line of one of several documents.
+    pub fn say_watched(&mut self, doc: u32, rev: u64)
+        ensures { self.new ≡ said_watched doc rev }
+    {
+        self.text.clear();
+        put_watched(doc, rev, &mut self.text);
     }
 }

@@ -50,7 +50,7 @@ pub fn serve_watch<W: Write, S: Source>(
 }
 
 /// Whether a number is above the last one that was told, if any was.
-fn is_above(rev: u64, last: Option<u64>) -> bool
+pub(crate) fn is_above(rev: u64, last: Option<u64>) -> bool
     ensures { result ≡ is_above rev last }
 {
     match last {
@@ -60,7 +60,7 @@ fn is_above(rev: u64, last: Option<u64>) -> bool
 }
 
 /// Writes an answer that needs no memory, and hands it on.
-fn tell<W: Write>(
+pub(crate) fn tell<W: Write>(
     alloc: Global,
     room: &mut LineRoom,
     writer: &mut W,

@@ -7,7 +7,7 @@ use Rattle.websocket.specs.declared.handshake.failure.HandshakeError.{HandshakeE
 use Rattle.websocket.specs.Handshake.{requested_key, IsValidKey, accept_key_of, response_bytes}
 use Rattle.websocket.specs.Headers.{Fields}
 use Rattle.web_guests.specs.Causes.{cause_of}
-use Rattle.web_guests.specs.Guests.{guest_check}
+use Rattle.web_guests.specs.Guests.{guest_check, origin_in}
 use Rattle.web_guests.specs.Stating.{values_of}
 use Rattle.web_guests.specs.declared.refusal.Refusal.{Refusal}
 use Rattle.web_guests.specs.declared.refusal.Refusal.TheVariants.{NotWebSocket}
@@ -47,6 +47,12 @@ pub record CameIn {S : Type 0} (remaining contents : S → Option (List ℕ)) (p
   pub asks : Asks port named bytes key
   pub read : Consumes (remaining old) (remaining between) bytes
   pub answered : Appends (contents between) (contents new) (response_bytes (accept_key_of key) [])
+
+-- a guest came in so, whose head states this named origin, or none
+pub record CameFrom {S : Type 0} (remaining contents : S → Option (List ℕ)) (port : ℕ) (named : List (List ℕ)) (old new : S)
+    (origin : Option (List ℕ)) : Type 0 where
+  pub came : CameIn remaining contents port named old new
+  pub stated : origin ≡ origin_in named (values_of (map name_and_value came.asks.head.fields) (codes "Origin"))
 
 -- the stream gave one whole head, of a guest that may not come in for this cause
 pub record MayNotCome {S : Type 0} (remaining : S → Option (List ℕ)) (port : ℕ) (named : List (List ℕ)) (old : S) (cause : Refusal) : Type 0 where

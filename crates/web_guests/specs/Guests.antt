@@ -1,5 +1,5 @@
 -- Which guests may come in.
-use Rattle.std.specs.Prelude.{ℕ, Bool, true, false, List, [], ◌∷◌, bytes_eq, Result, Ok, Err, if◌then◌else◌}
+use Rattle.std.specs.Prelude.{ℕ, Bool, true, false, List, [], ◌∷◌, find, bytes_eq, Option, None, Result, Ok, Err, if◌then◌else◌}
 use Rattle.std.specs.List.{list_any}
 use Rattle.web_guests.specs.OwnHost.{is_own_host}
 use Rattle.web_guests.specs.declared.refusal.Refusal.{Refusal}
@@ -20,6 +20,12 @@ abbrev pub is_welcome : List (List ℕ) → List (List ℕ) → Bool
 is_welcome named [] = true
 is_welcome named (origin ∷ []) = is_named named origin
 is_welcome named (origin ∷ other ∷ more) = false
+
+-- the named one that is the origin, if one alone is stated
+abbrev pub origin_in : List (List ℕ) → List (List ℕ) → Option (List ℕ)
+origin_in named [] = None
+origin_in named (origin ∷ []) = find (λ known. bytes_eq known origin) named
+origin_in named (origin ∷ other ∷ more) = None
 
 -- a guest with these hosts and origins may come in; else it is refused for its host, or for its origin
 abbrev pub guest_check : ℕ → List (List ℕ) → List (List ℕ) → List (List ℕ) → Result (Unit {0}) Refusal

@@ -1,15 +1,19 @@
 //! Letting a guest in, or sending it away.
-ghost use Rattle.std.specs.Prelude.{◌≡◌, [], true, false, take, IfOk, IfErr, OnOk};
+ghost use Rattle.std.specs.Prelude.{◌≡◌, [], true, false, take, codes, option_map};
+ghost use Rattle.std.specs.Prelude.{IfOk, IfErr, OnOk};
 ghost use Rattle.std.specs.Io.KnownBytes.{Appends};
 ghost use Rattle.httparse.specs.Spans.{IsRequestWithin, span_bytes};
 ghost use Rattle.websocket.specs.Handshake.{response_bytes};
 ghost use Rattle.websocket.specs.Headers.{fields_of};
 ghost use Rattle.tungstenite.specs.Heads.{Serves, Heard};
 ghost use Rattle.tungstenite.specs.Config.{HasLimitsOf};
-ghost use Rattle.web_guests.specs.Admitting.{Judged, CameIn, MayNotCome};
+ghost use Rattle.web_guests.specs.Admitting.{Judged, CameIn, CameFrom, MayNotCome};
+ghost use Rattle.web_guests.specs.Guests.{origin_in};
+ghost use Rattle.web_guests.specs.Stating.{values_of};
 ghost use Rattle.web_guests.specs.Causes.{is_forbidden};
 
-use crate::guest::may_come;
+use crate::came_in::Guest;
+use crate::guest::{may_come, named_by};
 use crate::head::read_head;
 use crate::origin::Origin;
 use crate::refusal::Refusal;
@@ -29,7 +33,7 @@ const MOST_FIELDS: usize = 64;
 /// read fails (`TimedOut`) and a write ends once the guest's time is over.
 pub fn admit<S: Read + Write + Drop>(
     alloc: Global,
-    mut stream: S,
+    stream: S,
     port: u16,
     named: &[Origin],
     config: Option<WebSocketConfig>,
@@ -41,8 +45,33 @@ pub fn admit<S: Read + Write + Drop>(
     ensures sent_away { IfErr result (λ cause. is_forbidden cause ≡ true
         → MayNotCome S.remaining port named.now stream cause) }
 {
+    match admit_from(alloc, stream, port, named, config) {
+        Ok(guest) => Ok(guest.socket),
+        Err(refusal) => Err(refusal),
+    }
+}
+
+/// Lets a guest in, or sends it away, as [`admit`] does, and tells from which web page it comes:
+/// the named origin that its head states, or none where its head states none.
+pub fn admit_from<'n, S: Read + Write + Drop>(
+    alloc: Global,
+    mut stream: S,
+    port: u16,
+    named: &'n [Origin],
+    config: Option<WebSocketConfig>,
+) -> Result<Guest<'n, S>, Refusal>
+    ensures came { IfOk result (λ guest. CameFrom S.remaining S.contents port named.now stream
+        guest.socket.stream (option_map (λ origin. origin.now) guest.origin)) }
+    ensures serves { IfOk result (λ guest. Serves guest.socket) }
+    ensures limits { IfOk result (λ guest. HasLimitsOf guest.socket.conn.config config) }
+    ensures sent_away { IfErr result (λ cause. is_forbidden cause ≡ true
+        → MayNotCome S.remaining port named.now stream cause) }
+{
     match let_in(alloc, &mut stream, port, named) {
-        Ok(()) => Ok(WebSocket::from_raw_socket(alloc, stream, NoMask, Role::Server, config)),
+        Ok(origin) => Ok(Guest {
+            socket: WebSocket::from_raw_socket(alloc, stream, NoMask, Role::Server, config),
+            origin,
+        }),
         Err(refusal) => {
             // It is sent away also where it doesn't listen.
             let _ = put(&mut stream, refusal.answer());
@@ -51,15 +80,15 @@ pub fn admit<S: Read + Write + Drop>(
     }
 }
 
-/// Reads a guest's head, and answers it if the guest may come in.
-fn let_in<S: Read + Write>(
+/// Reads a guest's head, and answers it if the guest may come in. Gives the origin that it states.
+fn let_in<'n, S: Read + Write>(
     alloc: Global,
     stream: &mut S,
     port: u16,
-    named: &[Origin],
-) -> Result<(), Refusal>
-    ensures came { OnOk result
-        (CameIn S.remaining S.contents port named.now stream.old stream.new) }
+    named: &'n [Origin],
+) -> Result<Option<&'n Origin>, Refusal>
+    ensures came { IfOk result (λ origin. CameFrom S.remaining S.contents port named.now
+        stream.old stream.new (option_map (λ origin. origin.now) origin)) }
     ensures heard { OnOk result Heard }
     ensures sent_away { IfErr result (λ cause. is_forbidden cause ≡ true
         → MayNotCome S.remaining port named.now stream.old cause) }
@@ -68,7 +97,22 @@ fn let_in<S: Read + Write>(
     let mut spans = [EMPTY_HEADER_SPAN; MOST_FIELDS];
     let found = read_head(stream, &mut head, &mut spans)?;
     let accept = judge(&head, &found, &spans, port, named)?;
-    welcome(alloc, &accept, stream)
+    welcome(alloc, &accept, stream)?;
+    Ok(origin_of(&head, &found, &spans, named))
+}
+
+/// The named origin that a head states, if it states one alone.
+fn origin_of<'n>(
+    head: &[u8],
+    found: &RequestSpans,
+    spans: &[HeaderSpan],
+    named: &'n [Origin],
+) -> Option<&'n Origin>
+    requires { IsRequestWithin head.now spans.now found.now }
+    ensures { option_map (λ origin. origin.now) result ≡ origin_in named.now
+        (values_of (fields_of head.now (take found.now.headers spans.now)) (codes "Origin")) }
+{
+    named_by(Stated::of(head, &spans[..found.headers], b"Origin"), named)
 }
 
 /// Answers a guest that comes in.

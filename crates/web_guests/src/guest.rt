@@ -1,7 +1,7 @@
 //! Whether a guest may come in, by its host and its origin.
-ghost use Rattle.std.specs.Prelude.{◌≡◌, List, ℕ};
+ghost use Rattle.std.specs.Prelude.{◌≡◌, List, ℕ, option_map, find, bytes_eq};
 ghost use Rattle.web_guests.specs.Stating.{States};
-ghost use Rattle.web_guests.specs.Guests.{guest_check, host_is_own, is_welcome, is_named};
+ghost use Rattle.web_guests.specs.Guests.{guest_check, host_is_own, is_welcome, is_named, origin_in};
 
 use crate::origin::Origin;
 use crate::own_host::is_own_host;
@@ -49,6 +49,27 @@ fn is_welcome(origin: Stated<'_>, named: &[Origin]) -> bool
         Stated::Once(origin) => is_named(origin, named),
         Stated::Often => false,
     }
+}
+
+/// The named origin that is stated, if one alone is.
+pub(crate) fn named_by<'n>(origin: Stated<'_>, named: &'n [Origin]) -> Option<&'n Origin>
+    ensures { (origins : List (List ℕ)) → States origin.entry origins
+        → option_map (λ origin. origin.now) result ≡ origin_in named.now origins }
+{
+    match origin {
+        Stated::Once(origin) => find_named(origin, named),
+        Stated::Never | Stated::Often => None,
+    }
+}
+
+/// The first of these that is the origin, byte for byte.
+fn find_named<'n>(origin: &[u8], named: &'n [Origin]) -> Option<&'n Origin>
+    ensures { option_map (λ origin. origin.now) result
+        ≡ find (λ known. bytes_eq known origin.now) named.now }
+{
+    named
+        .iter()
+        .find(|known| known.as_str().as_bytes() == origin)
 }
 
 /// Whether the origin is one of these, byte for byte.

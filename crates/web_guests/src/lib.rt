@@ -5,6 +5,7 @@
 #![tactic(auto)]
 
 mod admitting;
+mod came_in;
 mod guest;
 mod head;
 mod letters;
@@ -14,7 +15,8 @@ mod own_host;
 mod refusal;
 mod stated;
 
-pub use admitting::admit;
+pub use admitting::{admit, admit_from};
+pub use came_in::Guest;
 pub use guest::may_come;
 pub use origin::{BadOrigin, Origin};
 pub use refusal::Refusal;

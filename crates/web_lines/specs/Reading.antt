@@ -62,7 +62,7 @@ module _ {S : Type 0} where
   -- the other end was told how the connection is: a refusal is a close with its code, and nothing waits to be sent
   abbrev pub Tells : (S → Option (List ℕ)) → Ending → Socket S → Socket S → Type 0
   Tells contents NotYet old new = Flushed contents old new × (new.output ≡ [])
-  Tells contents Closed old new = Flushed contents old new × (new.output ≡ [])
+  Tells contents (Closed code) old new = Flushed contents old new × (new.output ≡ [])
   Tells contents (Refused code) old new = Writes contents old new (close_step old.conn (Some (code, []))) × (new.output ≡ [])
   Tells contents StreamEnded old new = new ≡ old
 

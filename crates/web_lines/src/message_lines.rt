@@ -74,7 +74,7 @@ impl<S: Read + Write + Drop> MessageLines<S> {
             (Tells S.contents self.old.ending self.old.socket self.new.socket) }
     {
         match self.ending {
-            Ending::NotYet | Ending::Closed => self.socket.flush().map_err(io_error),
+            Ending::NotYet | Ending::Closed(_) => self.socket.flush().map_err(io_error),
             Ending::Refused(code) => send_close(&mut self.socket, bare_close(code)),
             Ending::StreamEnded => Ok(()),
         }

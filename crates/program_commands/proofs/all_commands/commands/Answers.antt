@@ -13,5 +13,7 @@ returns c =
     let two = c.in_ok-subcommand-2.ensures.shape c.in_ok-edit_command.ensures.local ∙ ap₂ with_subcommand one (ap top c.in_ok-edit_command.ensures.app) in
     let three = c.in_ok-subcommand-3.ensures.shape c.in_ok-dump_command.ensures.local ∙ ap₂ with_subcommand two (ap top c.in_ok-dump_command.ensures.app) in
     let four = c.in_ok-subcommand-4.ensures.shape c.in_ok-list_command.ensures.local ∙ ap₂ with_subcommand three (ap top c.in_ok-list_command.ensures.app) in
-    let five = c.in_ok-subcommand-5.ensures.shape c.in_ok-export_command.ensures.local ∙ ap₂ with_subcommand four (ap top c.in_ok-export_command.ensures.app) in
-    c.in_ok-all.ensures.shape c.in_ok-serve_command.ensures.local ∙ ap₂ with_subcommand five (ap top c.in_ok-serve_command.ensures.app)
+    let five = c.in_ok-subcommand-5.ensures.shape c.in_ok-check_command.ensures.local ∙ ap₂ with_subcommand four (ap top c.in_ok-check_command.ensures.app) in
+    let six = c.in_ok-subcommand-6.ensures.shape c.in_ok-export_command.ensures.local ∙ ap₂ with_subcommand five (ap top c.in_ok-export_command.ensures.app) in
+    let seven = c.in_ok-subcommand-7.ensures.shape c.in_ok-serve_command.ensures.local ∙ ap₂ with_subcommand six (ap top c.in_ok-serve_command.ensures.app) in
+    c.in_ok-all.ensures.shape c.in_ok-ask_command.ensures.local ∙ ap₂ with_subcommand seven (ap top c.in_ok-ask_command.ensures.app)

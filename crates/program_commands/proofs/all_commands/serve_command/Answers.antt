@@ -26,7 +26,9 @@ returns c =
     let five_local = c.in_ok-arg-5.ensures.globals ∙ ap₂ ◌||◌ four_local c.port-4.ensures.local in
     let six_local = c.in_ok-arg-6.ensures.globals ∙ ap₂ ◌||◌ five_local c.origin.ensures.local in
     let seven_local = c.in_ok-arg-7.ensures.globals ∙ ap₂ ◌||◌ six_local c.flag.ensures.local in
+    let eight = c.in_ok-arg-8.ensures.shape c.flag-2.ensures.local ∙ ap₂ with_rule seven c.flag-2.ensures.rule in
+    let eight_local = c.in_ok-arg-8.ensures.globals ∙ ap₂ ◌||◌ seven_local c.flag-2.ensures.local in
     record {
-      app = c.in_ok-command.ensures.shape c.flag-2.ensures.local ∙ ap₂ with_rule seven c.flag-2.ensures.rule;
-      local = c.in_ok-command.ensures.globals ∙ ap₂ ◌||◌ seven_local c.flag-2.ensures.local;
+      app = c.in_ok-command.ensures.shape c.flag-3.ensures.local ∙ ap₂ with_rule eight c.flag-3.ensures.rule;
+      local = c.in_ok-command.ensures.globals ∙ ap₂ ◌||◌ eight_local c.flag-3.ensures.local;
     }

@@ -1,5 +1,6 @@
 use Rattle.std.proofs.Common.{◌++◌, false, arith}
-use Rattle.session_lines.specs.Saying.{comma_after, said_step, said_steps}
+use Rattle.session_lines.specs.Saying.{said_step, said_steps}
+use Rattle.session_lines.specs.Words.{comma_after}
 use Rattle.session_lines.proofs.PutLemmas.{then_puts, puts_err}
 use Rattle.session_lines.proofs.SaidLemmas.{said_step_more, said_steps_end}
 use Rattle.session_lines.proofs.changes.put_steps.Goals as goal

@@ -1,5 +1,6 @@
 use Rattle.std.proofs.Common.{◌++◌, false, arith}
-use Rattle.session_lines.specs.Saying.{comma_after, said_peer, said_peers}
+use Rattle.session_lines.specs.Saying.{said_peer, said_peers}
+use Rattle.session_lines.specs.Words.{comma_after}
 use Rattle.session_lines.proofs.PutLemmas.{then_puts, puts_err}
 use Rattle.session_lines.proofs.SaidLemmas.{said_peer_more, said_peers_end}
 use Rattle.session_lines.proofs.peers.put_peers.Goals as goal

@@ -1,5 +1,6 @@
 use Rattle.std.proofs.Common.{◌++◌, false, arith}
-use Rattle.session_lines.specs.Saying.{comma_after, said_anchor, said_anchors}
+use Rattle.session_lines.specs.Saying.{said_anchor, said_anchors}
+use Rattle.session_lines.specs.Words.{comma_after}
 use Rattle.session_lines.proofs.PutLemmas.{then_puts, puts_err}
 use Rattle.session_lines.proofs.SaidLemmas.{said_anchor_more, said_anchors_end}
 use Rattle.session_lines.proofs.places.put_anchors.Goals as goal

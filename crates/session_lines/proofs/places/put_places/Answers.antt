@@ -1,5 +1,6 @@
 use Rattle.std.proofs.Common.{◌++◌, false, arith, get_or, None}
-use Rattle.session_lines.specs.Saying.{comma_after, said_place, said_places}
+use Rattle.session_lines.specs.Saying.{said_place, said_places}
+use Rattle.session_lines.specs.Words.{comma_after}
 use Rattle.session_lines.proofs.PutLemmas.{then_puts, puts_err}
 use Rattle.session_lines.proofs.SaidLemmas.{said_place_more, said_places_end, same_at}
 use Rattle.session_lines.proofs.places.put_places.Goals as goal

@@ -8,4 +8,4 @@ use Rattle.session_lines.proofs.several.each_number.Given as goal
 -- those that are read, and what is left, are all
 abbrev pub invariant-loop-item : goal.invariant-loop-item
 invariant-loop-item l =
-    with_front l.numbers.items (each (as_whole 0) (items_view (drop l.item-index l.items))) ≡ each (as_whole 0) (items_view l.items)
+    with_front l.numbers.items (each (as_whole l.low) (items_view (drop l.item-index l.items))) ≡ each (as_whole l.low) (items_view l.items)

@@ -1,5 +1,6 @@
 use Rattle.std.proofs.Common.{◌++◌, false, arith}
-use Rattle.session_lines.specs.Saying.{comma_after, said_id, said_ids}
+use Rattle.session_lines.specs.Saying.{said_id, said_ids}
+use Rattle.session_lines.specs.Words.{comma_after}
 use Rattle.session_lines.proofs.PutLemmas.{then_puts, puts_err}
 use Rattle.session_lines.proofs.SaidLemmas.{said_id_more, said_ids_end}
 use Rattle.session_lines.proofs.spans.put_ids.Goals as goal

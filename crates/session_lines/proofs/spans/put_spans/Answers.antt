@@ -1,5 +1,6 @@
 use Rattle.std.proofs.Common.{◌++◌, false, arith}
-use Rattle.session_lines.specs.Saying.{comma_after, said_span, said_spans}
+use Rattle.session_lines.specs.Saying.{said_span, said_spans}
+use Rattle.session_lines.specs.Words.{comma_after}
 use Rattle.session_lines.proofs.PutLemmas.{then_puts, puts_err}
 use Rattle.session_lines.proofs.SaidLemmas.{said_span_more, said_spans_end}
 use Rattle.session_lines.proofs.spans.put_spans.Goals as goal

@@ -1,0 +1,11 @@
+use Rattle.std.proofs.Common.{rules, ap₂, ◌∙◌}
+use Rattle.clap.specs.Simple.{with_rule}
+use Rattle.program_commands.proofs.all_commands.ask_command.Goals as goal
+
+pub returns : goal.returns
+returns c =
+    let with_port = c.in_ok-arg.ensures.shape c.needed.ensures.local ∙ ap₂ with_rule c.described-bare.ensures.app c.needed.ensures.rule in
+    record {
+      app = c.in_ok-command.ensures.shape c.line.ensures.local ∙ ap₂ with_rule with_port c.line.ensures.rule;
+      local = search rules;
+    }
