@@ -1,7 +1,7 @@
 """A backup and an export every hour, beside a running daemon: python3 examples/backup.py PEERS FOLDER [--once]
 
-PEERS is the daemon's `--peers` port. FOLDER/replica is a replica of its own, which is joined to the daemon for each round until it
-has all that is there. Each round leaves a folder with a copy of it, and each document as Markdown.
+PEERS is the daemon's `--peers` port. FOLDER/replica is a replica that is joined to it for each round, until it has all that is there.
+Each round leaves a folder with a copy of it, which was checked, and each document as Markdown.
 """
 
 import contextlib
@@ -23,10 +23,7 @@ def catch_up(replica, peers):
     """Serves the replica, joined to the daemon, until it has all operations that the daemon has said that it has."""
     with socket.create_server(("127.0.0.1", 0)) as one, socket.create_server(("127.0.0.1", 0)) as other:
         free, unused = one.getsockname()[1], other.getsockname()[1]
-    words = [PROGRAM, "serve", replica, "--sessions", str(free), "--peers", str(unused), "--link", str(peers), "--ready"]
-    served = subprocess.Popen(words, stdout=subprocess.PIPE)
-    # A line once it listens, or none if it has ended.
-    served.stdout.readline()
+    served = subprocess.Popen([PROGRAM, "serve", replica, "--sessions", str(free), "--peers", str(unused), "--link", str(peers)])
     while served.poll() is None:
         with contextlib.suppress(peritext.NoDaemon, peritext.Ended), peritext.connect(free, retry=None) as session:
             applied, joined = session.ask(op="status")["applied"], session.peers().peers
@@ -54,8 +51,7 @@ if __name__ == "__main__":
         peritext.init(folder / "replica", program=PROGRAM)
     while True:
         catch_up(folder / "replica", peers)
-        made = folder / time.strftime("%Y-%m-%d_%H-%M-%S")
-        made.mkdir()
+        (made := folder / time.strftime("%Y-%m-%d_%H-%M-%S")).mkdir()
         save(folder / "replica", made)
         print(made, flush=True)
         if "--once" in sys.argv:

@@ -21,8 +21,8 @@ use std::alloc::Global;
 /// session's first line. `Syntax` (2) where the line isn't read as JSON in UTF-8, `Request` (3)
 /// where its `op` isn't "watch", `Field` (4) where it has neither `doc` nor `docs`, both, or
 /// another field; its `doc` is no number from 1 to 2^32 - 1, or its `docs` neither "all" nor a list
-/// of 1 to 1,024 such numbers. `Memory` (1) where a growth was refused. The time is that of reading the
-/// line.
+/// of 1 to 1,024 such numbers. `Memory` (1) where a growth was refused. The time is that of reading
+/// the line.
 pub fn watch_line(alloc: Global, line: &[u8]) -> Result<Watching, Refusal>
     ensures ok { IfOk result (λ watching. watched_by line.now ≡ Ok watching) }
     ensures err { IfErr result (λ refusal. refusal ≢ Memory

@@ -14,7 +14,8 @@ use text_search::places;
 /// The answer where a text stands in one of so many operations, from so many characters on; or out
 /// of memory (1). Costs what `text_search::places` does.
 pub fn answer_find(alloc: Global, rev: u64, text: &Text, sought: &EditText, from: u32) -> Answer
-    ensures { (result ≡ answer.Places rev (map (λ at. Some at) (places_of sought.now text.now from)))
+    ensures { (result ≡ answer.Places rev
+        (map (λ at. Some at) (places_of sought.now text.now from)))
         ⊎ (result ≡ answer.Refused Memory) }
 {
     let ticks = &mut Ticks::new();
