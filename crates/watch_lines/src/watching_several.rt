@@ -2,7 +2,6 @@
 ghost use Rattle.std.specs.Prelude.{List, OnOk, OnErr};
 ghost use Rattle.std.specs.BTreeMap.{get};
 ghost use Rattle.std.specs.Io.KnownBytes.{Appends};
-ghost use Rattle.std.specs.Ordering.{nat_cmp};
 ghost use Rattle.byte_streams.specs.Fronts.{AppendsFront};
 ghost use Rattle.session_lines.specs.Saying.{said_watched};
 ghost use Rattle.watch_lines.specs.Telling.{is_above};
