@@ -9,7 +9,7 @@ use std::alloc::{AllocError, Global};
 /// What is in the body of the root slot that isn't live, where the next root goes.
 #[derive(Clone, Copy, Debug, Drop, PartialEq, Eq)]
 pub enum Stale {
-    /// The root of the commit before the live one.
+    /// A root of a smaller version, as the one of the commit before.
     Older,
     /// A root after the live one: its commit was cut off before it counted.
     Unfinished,

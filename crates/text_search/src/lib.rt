@@ -1,6 +1,7 @@
 //! Where a text stands in another one.
 //!
-//! Each character is looked at once, whatever the texts are: what was read is never read again.
+//! It takes at most two steps for each character, whatever the texts are, and never goes back to
+//! what was read.
 #![tactic(auto)]
 
 mod borders;

@@ -182,3 +182,7 @@ pub begun : {S : Type 0} (gives : S → NextOf → S → Type 0) (source : S) (l
     → (given : List NextOf) × GoingOf gives source given last source × Appends a a (told_of given)
 begun gives source last none None = ([], record { run = refl; last_is = none; goes_on = tt }, tt)
 begun gives source last none (Some bytes) = ([], record { run = refl; last_is = none; goes_on = tt }, sym (append-nil bytes))
+
+-- a number is above the one told last, as it was looked up
+pub newer_of : (told copied : Option ℕ) (rev : ℕ) (b : Bool) → copied ≡ told → b ≡ is_above rev copied → b ≡ true → is_above rev told ≡ true
+newer_of told copied rev b same is above = rw same at (sym is ∙ above)

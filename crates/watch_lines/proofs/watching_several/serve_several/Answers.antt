@@ -11,7 +11,7 @@ use Rattle.watch_lines.specs.Telling.{is_above}
 use Rattle.watch_lines.specs.TellingSeveral.{told_of}
 use Rattle.watch_lines.specs.declared.several_source.NextOf.TheVariants as next
 use Rattle.watch_lines.proofs.NumberLemmas.{map_has}
-use Rattle.watch_lines.proofs.SeveralLemmas.{begun, going_above, told_above, going_not_above, told_not_above, going_quiet, told_quiet}
+use Rattle.watch_lines.proofs.SeveralLemmas.{begun, newer_of, going_above, told_above, going_not_above, told_not_above, going_quiet, told_quiet}
 use Rattle.watch_lines.proofs.SeveralLemmas.{gave_end, told_failed, told_closed, over-of-snoc}
 use Rattle.watch_lines.proofs.TellingLemmas.{front_later}
 use Rattle.watch_lines.proofs.watching_several.serve_several.Goals.{in-Rev+in_ok-insert-in-Rev+in_ok-tell_of-in-Rev, in-Rev+else-is_above, in-Quiet}
@@ -25,8 +25,7 @@ pub returns-in_err-insert-in-Rev-clause-err : goal.returns-in_err-insert-in-Rev-
 returns-in_err-insert-in-Rev-clause-err g c =
     let (given, going, before) = c.loop.invariant in
     let (fault, is, _) = err_from_is_err_and c.from_residual.result c.from_residual.ensures.1 in
-    let number : c.copied.result ≡ get nat_cmp c.loop.last c.in-Rev.doc = c.copied.ensures ∙ c.get.ensures.value in
-    let above : is_above c.in-Rev.rev (get nat_cmp c.loop.last c.in-Rev.doc) ≡ true = rw number at (sym c.is_above.ensures ∙ c.if-is_above.true) in
+    let above = newer_of _ c.copied.result c.in-Rev.rev c.is_above.result (c.copied.ensures ∙ c.get.ensures.value) c.is_above.ensures c.if-is_above.true in
     let n = next.Rev c.in-Rev.doc c.in-Rev.rev in
     rw is (
       given ++ n ∷ [],
@@ -46,8 +45,7 @@ returns-in_err-tell_of-in-Rev-clause-err g c =
     let (given, going, before) = c.loop.invariant in
     let (fault, is, _) =
     err_from_is_err_and c.from_residual-in_err-tell_of-in-Rev.result c.from_residual-in_err-tell_of-in-Rev.ensures.1 in
-    let number : c.copied.result ≡ get nat_cmp c.loop.last c.in-Rev.doc = c.copied.ensures ∙ c.get.ensures.value in
-    let above : is_above c.in-Rev.rev (get nat_cmp c.loop.last c.in-Rev.doc) ≡ true = rw number at (sym c.is_above.ensures ∙ c.if-is_above.true) in
+    let above = newer_of _ c.copied.result c.in-Rev.rev c.is_above.result (c.copied.ensures ∙ c.get.ensures.value) c.is_above.ensures c.if-is_above.true in
     let n = next.Rev c.in-Rev.doc c.in-Rev.rev in
     rw is (
       given ++ n ∷ [],
