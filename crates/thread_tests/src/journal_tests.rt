@@ -92,6 +92,8 @@ fn a_session_is_a_line(rt: HostRuntime) -> Result<(), Fail> {
 
 #[test]
 fn a_web_session_is_a_line(rt: HostRuntime) {
+    // The kit's borrow checker looks up the types that an event holds by the names in a function.
+    let _: Option<Cause> = None;
     let origin = Some("http://localhost:8080");
     let door = Entrance::Web { origin };
     let up = Event::SessionUp { session: 7, door };
