@@ -16,6 +16,7 @@ run:
 # a limit of processor seconds it fails.
 test:
 	@mkdir -p bin; rm -f bin/sources; $(SUM) > bin/asked
+	python3 tools/tables.py --check
 	python3 tools/edits.py
 	python3 tools/gate_times.py
 	@if $(SUM) | cmp -s - bin/asked; then python3 tools/quick.py --passed && cp $(PROGRAM) bin/peritext && mv bin/asked bin/sources; fi
@@ -58,7 +59,7 @@ install: peritext
 	install -D -m 755 bin/peritext $(DESTDIR)$(PREFIX)/bin/peritext
 	mkdir -p $(SHARE)/man/man1
 	python3 tools/man_page.py bin/peritext > $(SHARE)/man/man1/peritext.1
-	find README.md docs clients examples \( $(NOT_INSTALLED) \) -prune -o -type f -exec install -D -m 644 {} $(SHARE)/doc/peritext/{} \;
+	find *.md docs clients examples \( $(NOT_INSTALLED) \) -prune -o -type f -exec install -D -m 644 {} $(SHARE)/doc/peritext/{} \;
 
 # What the demo and its test run: bin/peritext, which is built only where it isn't there, or another program that PERITEXT names. The demo is
 # content with the unproved program where that alone is there.

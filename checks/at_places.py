@@ -8,16 +8,17 @@ import threading
 import time
 import uuid
 
+from agreed import LIMITS, refused
 from changes import changes, have_all
 from daemon import new_daemon
 from edits import AGAIN, LETTERS, TOKEN, edits, marked, removed, shown, typed
 from places import ABC, BROKEN, END, GREATEST, OTHER, THIRD, Model, after, anchors, answers_of, before, check_all, done, places, standing
 from program import REPLICA, line, new_file
 
-FIELD, RANGE, STALE, LIMIT = ({"code": code, "error": word, "ok": False} for code, word in ((4, "field"), (5, "range"), (6, "stale"), (7, "limit")))
+FIELD, RANGE, STALE, LIMIT = map(refused, (4, 5, 6, 7))
 TEXT, SPANS, STOP = line(op="text", doc=1), line(op="spans", doc=1), line(op="stop")
 KINDS = ({"kind": "strong"}, {"kind": "em"}, {"kind": "link", "url": "x:y"}, {"kind": "comment", "id": THIRD})
-LONG = 256
+LONG = LIMITS["edit_characters"]
 # How many scripts by chance, of how many lines of up to how many edits, and how long their texts get.
 SCRIPTS, LINES, MOST, LONGEST = 12, 160, 5, 60
 # How many edits each of two sessions makes beside the other, in a text that is never shorter than this.
@@ -300,7 +301,7 @@ def standing_all(model):
 
 def check_chance(checks, program):
     """Scripts by chance: each answer and the text are the model's, and the same is there as by the model's numbers, marks and ids too."""
-    made, refused = 0, {}
+    made, codes = 0, {}
     for number in range(SCRIPTS):
         asked, wanted, numbered, model = lines_by_chance(random.Random(number), Text(), LINES)
         question, answer = standing_all(model)
@@ -317,8 +318,8 @@ def check_chance(checks, program):
         checks.holds(f"script {number}: the same as by numbers", others[len(by_numbers) :] == found[LINES + 1 :])
         made += sum(it["ok"] for it in wanted)
         for it in wanted:
-            refused[it.get("code")] = refused.get(it.get("code"), 0) + 1
-    checks.holds(f"enough of each: {made} made, {refused}", made > SCRIPTS * LINES // 2 and all(refused.get(code, 0) > 9 for code in (5, 6, 7)))
+            codes[it.get("code")] = codes.get(it.get("code"), 0) + 1
+    checks.holds(f"enough of each: {made} made, {codes}", made > SCRIPTS * LINES // 2 and all(codes.get(code, 0) > 9 for code in (5, 6, 7)))
 
 
 def beside_by_chance(chance, names):
@@ -414,7 +415,8 @@ def name_of(talk, piece):
         first = text["text"].index(piece)
         before_it = talk.ask(anchors([first], "next"))
         answer = talk.ask(anchors([first + len(piece), first + len(piece) + 1]))
-        if text["rev"] == before_it["rev"] == answer["rev"]:
+        # Either is refused if the other one made the text shorter meanwhile.
+        if text["rev"] == before_it.get("rev") == answer.get("rev"):
             return before_it["anchors"] + answer["anchors"]
 
 

@@ -3,11 +3,12 @@
 import random
 import time
 
+from agreed import refused
 from daemon import new_daemon, within
 from places import ABC, END, FIELD, OTHER, anchors, answers_of, check_all, done
 from program import REPLICA, delete, insert, line, new_file, run
 
-STALE = {"code": 6, "error": "stale", "ok": False}
+STALE = refused(6)
 STOP, PEERS, SPANS = line(op="stop"), line(op="peers"), line(op="spans", doc=1)
 BARE = {"comments": None, "em": None, "link": None, "strong": None}
 COMMENTS = [f"00000000-0000-4000-8000-0000000000c{number}" for number in range(3)]

@@ -6,7 +6,8 @@ import time
 
 import page_file
 from crafted import expected
-from program import WORDS, all_of, insert, line, new_file, read, run, write
+from agreed import WORDS
+from program import all_of, insert, line, new_file, read, run, write
 
 CHANGES = 300
 

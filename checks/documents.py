@@ -1,11 +1,15 @@
-"""The documents, here and where `make install` puts them: what they link to is there, and so are the files that they name."""
+"""The documents, here and where `make install` puts them: what they link to is there, and so are the files that they name; the page and the picture
+of the layers are those of crates.txt."""
 
 import glob
 import os
 import re
 import subprocess
+import sys
 
 ROOT = os.path.dirname(os.path.dirname(os.path.abspath(__file__)))
+# Those in crates/.
+NOT_INSTALLED = 1
 SHARE = "usr/local/share/doc/peritext"
 CODE = re.compile(r"```.*?```|`[^`]*`", re.DOTALL)
 LINK = re.compile(r"!?\[[^\]]*\]\(([^)\s]+)\)")
@@ -14,7 +18,8 @@ NAMED = re.compile(r"`((?:docs|clients|examples|checks|bench|tools|crates)/[\w@.
 
 
 def documents(root):
-    found = [os.path.join(root, "README.md")]
+    found = glob.glob(os.path.join(root, "*.md"))
+    found += glob.glob(os.path.join(root, "crates", "*.md"))
     for folder in ("docs", "clients", "examples"):
         found += glob.glob(os.path.join(root, folder, "**", "*.md"), recursive=True)
     return [path for path in found if "node_modules" not in path]
@@ -52,8 +57,10 @@ def check(checks, _program, _until):
         name = os.path.relpath(path, ROOT)
         checks.same(f"dead links of {name}", dead_links(path), [])
         checks.same(f"what {name} names", missing(path), [])
+    layers = subprocess.run([sys.executable, "tools/layers.py", "--check"], cwd=ROOT, capture_output=True, text=True, check=False)
+    checks.same("the layers of crates.txt", (layers.returncode, layers.stderr), (0, ""))
     install(os.path.abspath("installed"))
     found = [path for path in documents(os.path.join("installed", SHARE)) if os.path.exists(path)]
-    checks.same("documents that are installed", len(found), len(documents(ROOT)))
+    checks.same("documents that are installed", len(found), len(documents(ROOT)) - NOT_INSTALLED)
     for path in found:
         checks.same(f"dead links of {path}", dead_links(path), [])

@@ -6,6 +6,7 @@ import random
 import threading
 
 import chance_edits
+from agreed import LIMITS, refused
 from changes import FOX, changes, have_all, mark, put, retain, take, told
 from daemon import new_daemon
 from kills import killed_session
@@ -13,10 +14,9 @@ from places import END, OTHER, anchors, answers_of, check_all
 from program import REPLICA, insert, line, new_file, read, run
 
 TOKEN, AGAIN = REPLICA[:-2] + "d1", REPLICA[:-2] + "d2"
-LINE, LIST, LONG = 65_536, 1_024, 256
+LINE, LIST, LONG = LIMITS["line_bytes"], LIMITS["edits"], LIMITS["edit_characters"]
 LETTERS = "".join(chr(97 + at % 26) for at in range(LONG))
 TEXT, SPANS, STOP, STATUS = line(op="text", doc=1), line(op="spans", doc=1), line(op="stop"), line(op="status")
-WORDS = {2: "syntax", 3: "request", 4: "field", 5: "range", 6: "stale", 7: "limit", 8: "busy", 11: "line", 12: "stopping"}
 # How many lines a reader sees come, of how many letters each; how many lines by chance, of up to how many edits.
 SEEN, LETTER, CHANCE, MOST = 60, 40, 30, 6
 # Of killed sessions: how many, of how many lines, of how many edits, and the most seconds until the kill.
@@ -47,10 +47,6 @@ def done(rev):
 
 def shown(rev, text):
     return {"ok": True, "rev": rev, "text": text}
-
-
-def refused(code, **more):
-    return {"code": code, "error": WORDS[code], "ok": False, **more}
 
 
 FIELD, STALE = refused(4), refused(6)

@@ -1,5 +1,5 @@
-"""`list` and `export`: what they tell of a file, and that parsers which others wrote find a document's text and marks in its Markdown
-(Debian's `cmark`) and in its HTML (`html5lib`).
+"""`list` and `export`: what they tell of a file, and that parsers which others wrote find a document's paragraphs, text and marks in its
+Markdown (Debian's `cmark`) and in its HTML (`html5lib`); with `--breaks` all in one paragraph.
 """
 
 import json
@@ -24,9 +24,10 @@ HOSTILE = (
     "# a\n## b\n- c\n+ d\n* e\n1. f\n1) g\n23456. h\n> i\n---\n***\n===\n```\nj\n~~~\n    k\n\tl\n<div>\nm\n| n |\n:-\n[o]: p\n",
     "a\n\n\nb\n", "\n", " ", "  a  ", "a  \n  b", "\na", " \n ", "\\", "a\\", "\\\n", "a&b;c", "&lt;", "1", "1.", "1\n.", "12 .", "!", "![",
     "a\rb\r\nc", "a\tb\u000bc\u000cd", "\u00a0a\u2003b\u3000", "\U0001f600\U0001f1eb\U0001f1f7e\u0301\u200d\u200f\u05d0", "\u2028a\u2029\u0085",
-    "</div></span><script>alert(1)</script>", "]]>", "<?a?>", "<![CDATA[a]]>", "\"'`\"'",
+    "\n\n\n", "\n\na", "a \n b", "a\n \nb", "\n-\n", "\n\n---\n\n===", "-->\n\n<!--", "a\n\n    b\n\tc", "[a]: b\n\n[a]", " \n\n ",
+    "</div></span></p><script>alert(1)</script>", "]]>", "<?a?>", "<![CDATA[a]]>", "\"'`\"'",
 )
-LETTERS = tuple("aZ9\u00e9\u0436\u6f22\u20ac\u24b6 \n\t*_`[]()<>&!#+-=.:|~\\\"'1\u00a0\U0001f600")
+LETTERS = tuple("aZ9\u00e9\u0436\u6f22\u20ac\u24b6 \n\n\n\n\t*_`[]()<>&!#+-=.:|~\\\"'1\u00a0\U0001f600")
 ROUNDS = 150
 
 
@@ -37,6 +38,12 @@ def mark(kind, start, end, doc, **more):
 def typed(text, doc):
     """The requests that put a text in, 256 characters at a time."""
     return b"".join(insert(k, text[k:k + 256], doc) for k in range(0, len(text), 256))
+
+
+# What a character has that has no marks, and where an empty paragraph stands in Markdown.
+NO_MARKS = (False, False, None, frozenset())
+EMPTY = "<!-- -->"
+HEAD, FOOT = '<!doctype html><meta charset="utf-8"><div style="white-space: pre-wrap">', "</div>\n"
 
 
 def edits(checks, program, name, lines):
@@ -69,7 +76,7 @@ def plain(url):
     return None if url is None else urllib.parse.unquote(url)
 
 
-def shown(node, marks=(False, False, None, frozenset())):
+def shown(node, marks=NO_MARKS):
     """Each character of a tree, with its marks."""
     found = [(character, marks) for character in node.text or ""]
     for child in node:
@@ -101,18 +108,58 @@ def parsed(html5lib, page):
 
 
 def of_html(html5lib, page):
-    """The characters of a page that the program wrote."""
+    """The characters of a page that the program wrote without paragraphs."""
     body = parsed(html5lib, page).find("body")
     return shown(body[0]) if len(body) == 1 and body[0].tag == "div" else "not one block"
 
 
-def of_markdown(html5lib, text):
-    """The characters of Markdown, as `cmark` shows it."""
+def rendered(text):
+    """What `cmark` makes of Markdown."""
     page = subprocess.run(["cmark", "--unsafe"], input=text, capture_output=True, check=True, timeout=60).stdout
-    body = parsed(html5lib, page.replace(b"\r", b"&#13;").decode()).find("body")
+    return page.replace(b"\r", b"&#13;").decode()
+
+
+def of_markdown(html5lib, text):
+    """The characters of Markdown without paragraphs."""
+    page = rendered(text)
+    body = parsed(html5lib, page).find("body")
     if not len(body):
         return []
-    return shown(body[0]) if len(body) == 1 and body[0].tag == "p" else "not one paragraph: " + page.decode()
+    return shown(body[0]) if len(body) == 1 and body[0].tag == "p" else "not one paragraph: " + page
+
+
+def joined(paragraphs):
+    """The characters of paragraphs, with a line feed between two."""
+    first, *others = paragraphs
+    return first + [it for paragraph in others for it in [("\n", NO_MARKS), *paragraph]]
+
+
+def parted(found):
+    """The characters of a text, whose line feeds end paragraphs and have no marks."""
+    return [("\n", NO_MARKS) if character == "\n" else (character, marks) for character, marks in found]
+
+
+def of_paragraphs(html5lib, page):
+    """The characters of a page that the program wrote with paragraphs."""
+    body = parsed(html5lib, page).find("body")
+    if len(body) != 1 or body[0].tag != "div" or body[0].text or any(child.tag != "p" for child in body[0]):
+        return "not one block of paragraphs"
+    tails = [child.tail or "" for child in body[0]]
+    if any(tails):
+        return f"between paragraphs: {tails}"
+    *before, last = map(shown, body[0])
+    ends = [paragraph.pop()[0] if paragraph else "" for paragraph in before]
+    return joined([*before, last]) if ends == ["\n"] * len(ends) else f"at the ends of paragraphs: {ends}"
+
+
+def of_markdown_paragraphs(html5lib, text):
+    """The characters of Markdown with paragraphs: a comment of its own is an empty one."""
+    page = rendered(text)
+    blocks = list(parsed(html5lib, "<!doctype html><body>" + page).find("body"))
+    is_empty = [not isinstance(child.tag, str) and child.text == " " for child in blocks]
+    if not blocks or not all(empty or child.tag == "p" for empty, child in zip(is_empty, blocks)):
+        return "not only paragraphs: " + page
+    return joined([] if empty else shown(child) for empty, child in zip(is_empty, blocks))
 
 
 def compare(checks, what, found, wanted, all_marks):
@@ -131,12 +178,20 @@ def check_document(checks, program, name, doc, html5lib, has_cmark):
     wanted = characters(spans_of(program, name, doc))
     text = "".join(character for character, _ in wanted)
     checks.same(f"text of {doc}", run(program, "export", name, str(doc)), (0, text.encode(), b""))
+    checks.same(f"text of {doc} with breaks", run(program, "export", name, str(doc), "--breaks"), (0, text.encode(), b""))
+
+    def exported(*words):
+        return run(program, "export", name, str(doc), "--to", *words)[1]
+
+    page, markdown = exported("html").decode(), exported("markdown")
+    checks.same(f"paragraphs in the html of {doc} {text!r}", page.count("<p>"), text.count("\n") + 1)
     if html5lib:
-        page = run(program, "export", name, str(doc), "--to", "html")[1]
-        compare(checks, f"html of {doc} {text!r}", of_html(html5lib, page.decode()), wanted, True)
+        compare(checks, f"html of {doc} {text!r}", of_paragraphs(html5lib, page), parted(wanted), True)
+        compare(checks, f"html of {doc} with breaks {text!r}", of_html(html5lib, exported("html", "--breaks").decode()), wanted, True)
     if html5lib and has_cmark:
-        markdown = run(program, "export", name, str(doc), "--to", "markdown")[1]
-        compare(checks, f"markdown of {doc} {text!r} {markdown!r}", of_markdown(html5lib, markdown), wanted, False)
+        compare(checks, f"markdown of {doc} {text!r} {markdown!r}", of_markdown_paragraphs(html5lib, markdown), parted(wanted), False)
+        broken = exported("markdown", "--breaks")
+        compare(checks, f"markdown of {doc} with breaks {text!r} {broken!r}", of_markdown(html5lib, broken), wanted, False)
 
 
 def room(size, documents, operations, replicas):
@@ -160,10 +215,14 @@ def check_list(checks, program):
     checks.same("list of no file", run(program, "list", "none"), fault(54))
     checks.same("export of no file", run(program, "export", "none", "1"), fault(54))
     checks.same("export of another document", run(program, "export", "listed", "9"), (0, b"", b""))
-    checks.same("Markdown of another document", run(program, "export", "listed", "9", "--to", "markdown"), (0, b"\n", b""))
+    for form, breaks, page in (("markdown", [], EMPTY + "\n"), ("markdown", ["--breaks"], "\n"), ("html", [], f"{HEAD}<p></p>{FOOT}"),
+                               ("html", ["--breaks"], HEAD + FOOT), ("text", ["--breaks"], "")):
+        found = run(program, "export", "listed", "9", "--to", form, *breaks)
+        checks.same(f"another document as {form} {breaks}", found, (0, page.encode(), b""))
     for words in (["export", "listed", "0"], ["export", "listed", "1", "--to", "pdf"], ["export", "listed", "1", "--to", ""]):
         checks.same(f"{words}", run(program, *words), fault(4))
-    for words in (["list"], ["list", "a", "b"], ["export", "listed"], ["export", "listed", "1", "--to"]):
+    for words in (["list"], ["list", "a", "b"], ["export", "listed"], ["export", "listed", "1", "--to"],
+                  ["export", "listed", "1", "--breaks", "--breaks"], ["export", "listed", "1", "--breaks=yes"]):
         checks.same(f"status of {words}", run(program, *words)[0], 2)
     for words in (["list", "--help"], ["export", "--help"]):
         checks.holds(f"an example in {words}", b"Example" in run(program, *words)[1])
@@ -174,6 +233,20 @@ def check_list(checks, program):
     checks.same("export of a held file", run(program, "export", "listed", "1"), fault(54))
     session.end()
     checks.same("they change nothing", read("listed"), data)
+
+
+def check_bytes(checks, program):
+    """Both forms of a document of four paragraphs to the byte: a link goes over all of them, and the second one is empty."""
+    new_file(program, "parted")
+    edits(checks, program, "parted", insert(0, "a \n\n# b\nc") + mark("link", 0, 9, 1, url="d") + mark("strong", 0, 2, 1))
+    link = '<a href="d">'
+    for form, breaks, page in (
+        ("html", [], f"{HEAD}<p>{link}<strong>a </strong></a>\n</p><p>\n</p><p>{link}# b</a>\n</p><p>{link}c</a></p>{FOOT}"),
+        ("html", ["--breaks"], f"{HEAD}{link}<strong>a </strong></a>{link}\n\n# b\nc</a>{FOOT}"),
+        ("markdown", [], f"[**a** ](<d>)\n\n{EMPTY}\n\n[# b](<d>)\n\n[c](<d>)\n"),
+        ("markdown", ["--breaks"], "[**a** ](<d>)[\\\n\\\n\\# b\\\nc](<d>)\n"),
+    ):
+        checks.same(f"four paragraphs as {form} {breaks}", run(program, "export", "parted", "1", "--to", form, *breaks), (0, page.encode(), b""))
 
 
 def marked(doc):
@@ -236,6 +309,35 @@ def check_exports(checks, program):
         check_document(checks, program, "exported", doc, html5lib, has_cmark)
 
 
+def check_past(checks, program):
+    """A document as it was at each number of operations, in each form, also where another document was edited between."""
+    new_file(program, "past")
+    requests = [insert(0, "one two"), mark("strong", 0, 3, 1), insert(0, "x", 2), delete(3, 1), insert(3, "\n"), mark("em", 0, 8, 1), line(op="spans", doc=1)]
+    requests += [insert(7, "!"), delete(0, 2)]
+    forms = ("text", "markdown", "html")
+    asked = [line(op="export", doc=1, to=form) for form in forms]
+    was = {0: ["" for _ in forms]}
+    session = Session(program, "past")
+    for request in requests:
+        session.ask(request)
+        found = [session.ask(it) for it in asked]
+        was[found[0]["rev"]] = [it["text"] for it in found]
+    session.end()
+    revs = sorted(was)
+    for rev in revs[1:]:
+        for form, text in zip(forms, was[rev]):
+            checks.same(f"{form} at {rev}", run(program, "export", "past", "1", "--to", form, "--at-rev", str(rev)), (0, text.encode(), b""))
+    checks.same("none of it", run(program, "export", "past", "1", "--at-rev", "0"), (0, b"", b""))
+    checks.same("between two edits", run(program, "export", "past", "1", "--at-rev", "3"), (0, b"one", b""))
+    before = read("past")
+    for word in (str(revs[-1] + 1), "4294967295", "4294967296", "-1", "1x", ""):
+        checks.same(f"no such number: {word!r}", run(program, "export", "past", "1", f"--at-rev={word}"), fault(4))
+    checks.same("another document has fewer", run(program, "export", "past", "2", "--at-rev", "2"), fault(4))
+    checks.same("nothing is written", read("past"), before)
+
+
 def check(checks, program, _until):
     check_list(checks, program)
+    check_bytes(checks, program)
     check_exports(checks, program)
+    check_past(checks, program)

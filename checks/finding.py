@@ -3,18 +3,20 @@
 import random
 import time
 
+from agreed import LIMITS
 from daemon import new_daemon
 from places import ABC, END, FIELD, answers_of, check_all, done, standing
 from program import delete, insert, line, new_file, run
 
 FOX = "🦊"
 # How many places one request tells at most, and how long the text that is looked for.
-MOST, LONGEST = 1_024, 256
+MOST, LONGEST = LIMITS["found"], LIMITS["edit_characters"]
 # How often what is found by chance is compared, and how long the texts are.
 TEXTS, LENGTH = 60, 200
 # How long a text is in which each place nearly matches, and how many seconds its answer may take at most.
 LONG, PATIENCE = 200_000, 10
 FORMS = ("text", "markdown", "html")
+HEAD = '<!doctype html><meta charset="utf-8"><div style="white-space: pre-wrap">'
 
 
 def find(text, start=None, doc=1, **more):
@@ -50,11 +52,17 @@ ROWS = {
     "an export": [
         ABC, (line(op="mark", doc=1, **{"from": 0}, to=2, kind="em"), done(4)), (export("text"), exported(4, "abc")),
         (export("markdown"), exported(4, "*ab*c\n")),
-        (export("html"), exported(4, '<!doctype html><meta charset="utf-8"><div style="white-space: pre-wrap"><em>ab</em>c</div>\n')),
+        (export("html"), exported(4, f"{HEAD}<p><em>ab</em>c</p></div>\n")), (export("html", breaks=True), exported(4, f"{HEAD}<em>ab</em>c</div>\n")),
+    ],
+    "an export of paragraphs": [
+        (insert(0, "a\n\nb"), done(4)), (export("text"), exported(4, "a\n\nb")), (export("text", breaks=True), exported(4, "a\n\nb")),
+        (export("markdown"), exported(4, "a\n\n<!-- -->\n\nb\n")), (export("markdown", breaks=False), exported(4, "a\n\n<!-- -->\n\nb\n")),
+        (export("markdown", breaks=True), exported(4, "a\\\n\\\nb\n")), (export("html"), exported(4, f"{HEAD}<p>a\n</p><p>\n</p><p>b</p></div>\n")),
+        (export("html", breaks=True), exported(4, f"{HEAD}a\n\nb</div>\n")),
     ],
     "other fields of an export": [
         ABC, *[(export(it), FIELD) for it in ("", "HTML", "pdf", 1, None, True)], (line(op="export", doc=1), FIELD), (export("text", 0), FIELD),
-        (export("text", rev=3), FIELD),
+        (export("text", rev=3), FIELD), *[(export("html", breaks=it), FIELD) for it in (None, 0, 1, "", "true", [], {})],
     ],
 }
 
@@ -114,12 +122,12 @@ def check_daemon(checks, program):
     talk = daemon.talk()
     talk.ask(insert(0, "one *two* <three>\n# four"))
     talk.ask(line(op="mark", doc=1, **{"from": 4}, to=9, kind="strong"))
-    answers = {form: talk.ask(export(form)) for form in FORMS}
+    answers = {(form, breaks): talk.ask(export(form, breaks=breaks)) for form in FORMS for breaks in (False, True)}
     talk.close()
     checks.same("the end of a daemon that exported", daemon.stop(), END)
-    for form, answer in answers.items():
-        status, page, _ = run(program, "export", "finding", "1", "--to", form)
-        checks.same(f"exported as {form}", (status, answer["text"]), (0, page.decode()))
+    for (form, breaks), answer in answers.items():
+        status, page, _ = run(program, "export", "finding", "1", "--to", form, *["--breaks"] * breaks)
+        checks.same(f"exported as {form}, breaks: {breaks}", (status, answer["text"]), (0, page.decode()))
 
 
 def check(checks, program, _end):

@@ -9,13 +9,13 @@ import socket
 import subprocess
 import time
 
+from agreed import refused, sentences
 from daemon import HOST, PATIENCE, Daemon, Talk, connection, free_ports, new_daemon, within
 from full_disk import limited
 from program import PAGE, REPLICA, fault, insert, line, new_file
-from sentences import sentences
 
 STOP = line(op="stop")
-BUSY = {"code": 8, "error": "busy", "ok": False}
+BUSY = refused(8)
 # The replica of the other file.
 OTHER = "00000000-0000-4000-8000-000000000002"
 FIELD = re.compile(r'(\w+)=("[^"]*"|[^ "]+)(?: |$)')

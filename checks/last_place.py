@@ -4,13 +4,14 @@
 
 import time
 
+import agreed
 from beside import again, seat
 from daemon import new_daemon
 from program import insert, line
 
 STATUS, STOP, TEXT = line(op="status"), line(op="stop"), line(op="text", doc=1)
-BUSY = {"code": 8, "error": "busy", "ok": False}
-PLACES = 32
+BUSY = agreed.refused(8)
+PLACES = agreed.LIMITS["sessions"]
 # Seconds within which a session that says nothing loses the last place, and a busy machine's slack.
 SILENT, SLACK = 1, 4
 REFUSED = {

@@ -12,6 +12,7 @@ import sys
 import tempfile
 import time
 
+from agreed import refused
 from daemon import within
 from program import REPLICA, Checks, all_of, fault, insert, line, new_file, read, run
 from refusing import MEMORY, Pipe, Refusal, RefusedDaemon, Wrong, compiled, ended
@@ -25,7 +26,7 @@ ROWS = (1, 3, 40)
 SECONDS, LEAST = 6, 5
 LONGEST = 7_200
 REFUSED = line(code=1, error="memory", ok=False)
-BUSY = line(code=8, error="busy", ok=False)
+BUSY = line(**refused(8))
 FAILED = {"code": 9, "error": "failed", "ok": False}
 MEGABYTE = 1_000_000
 # How often a begin is tried that finds no memory.

@@ -5,6 +5,7 @@ linked again seldom, and each goes on serving its own.
 import subprocess
 import time
 
+from agreed import LIMITS
 from beside import link, seat, together
 from between import Between
 from daemon import new_daemon, within
@@ -13,7 +14,7 @@ from program import REPLICA, insert, line
 
 STATUS = line(op="status")
 OTHER = REPLICA[:-1] + "2"
-DOCUMENTS, REPLICAS = 1_024, 16
+DOCUMENTS, REPLICAS = LIMITS["documents"], LIMITS["replicas"]
 SESSIONS = 16
 # Where they were linked 80 times, they are 3 times at most.
 WATCHED, JOINS = 8, 3

@@ -3,17 +3,18 @@
 import json
 import random
 
+from agreed import LIMITS, refused
 from daemon import new_daemon, within
 from program import REPLICA, delete, insert, line, new_file, run
 
 OTHER, THIRD = REPLICA[:-1] + "2", REPLICA[:-1] + "3"
 LETTERS = "abcdef01-2345-4678-89ab-cdef01234567"
-FIELD, RANGE = ({"code": code, "error": word, "ok": False} for code, word in ((4, "field"), (5, "range")))
+FIELD, RANGE = refused(4), refused(5)
 STOP, TEXT = line(op="stop"), line(op="text", doc=1)
 END = ({"ok": True}, (0, b"", b""))
 SIDES = ("previous", "next")
 # How many places one request asks for at most, and the greatest counter.
-MOST, GREATEST = 256, 2**48 - 1
+MOST, GREATEST = LIMITS["places"], LIMITS["counter"]
 EDITS = 150
 
 

@@ -5,14 +5,11 @@ import os
 import subprocess
 from concurrent.futures import ThreadPoolExecutor
 
+from agreed import WORDS
+
 REPLICA = "00000000-0000-4000-8000-000000000001"
 NAME = bytes.fromhex("00000000000040008000000000000001")
 PAGE = 4096
-WORDS = {
-    1: "memory", 4: "field", 9: "failed", 42: "no root", 43: "bad root", 45: "bad table", 46: "bad stream",
-    47: "bad operation", 48: "not empty", 50: "read failed", 51: "write failed", 52: "sync failed",
-    54: "open failed", 70: "socket", 71: "stream",
-}
 
 
 class Checks:

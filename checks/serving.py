@@ -7,6 +7,7 @@ import subprocess
 import threading
 import time
 
+from agreed import LIMITS, refused
 from daemon import Daemon, Talk, connection, free_ports, new_daemon, within
 from program import NAME, REPLICA, delete, fault, insert, line, new_file, run, text_of, texts
 
@@ -16,19 +17,14 @@ THIRD = REPLICA[:-1] + "3"
 STOP = line(op="stop")
 STOPPED = {"ok": True}
 ENDED = (0, b"", b"")
-BUSY = {"code": 8, "error": "busy", "ok": False}
+BUSY = refused(8)
 STATUS = line(op="status")
-SESSIONS = 32
-LINKS = 8
+SESSIONS, LINKS = LIMITS["sessions"], LIMITS["links"]
 HELLO = bytes.fromhex("00000013010003") + bytes.fromhex("00000000000040008000000000000009")
 
 
 def text(doc=1):
     return line(op="text", doc=doc)
-
-
-def refused(number, word):
-    return {"code": number, "error": word, "ok": False}
 
 
 def mark(kind, first, last, **more):
@@ -94,21 +90,21 @@ ROWS = {
         (spans(), shown(6, {"comments": [COMMENT + "1"], "text": "a"}, {"comments": [COMMENT + "2"], "text": "bc"})),
     ],
     "the fields of a line": [
-        (insert(0, "a"), done(1)), (insert(0, "a", doc=0), refused(4, "field")), (b'{"op":"insert","doc":1,"at":1.0,"text":"b"}\n', refused(4, "field")),
-        (b"[" * 100 + b"]" * 100 + b"\n", refused(3, "request")), (b"[" * 200 + b"]" * 200 + b"\n", refused(2, "syntax")),
-        (mark("link", 0, 1, url="u" * 1_025), refused(4, "field")), (mark("link", 0, 1, url="u" * 1_024), done(2)),
+        (insert(0, "a"), done(1)), (insert(0, "a", doc=0), refused(4)), (b'{"op":"insert","doc":1,"at":1.0,"text":"b"}\n', refused(4)),
+        (b"[" * 100 + b"]" * 100 + b"\n", refused(3)), (b"[" * 200 + b"]" * 200 + b"\n", refused(2)),
+        (mark("link", 0, 1, url="u" * 1_025), refused(4)), (mark("link", 0, 1, url="u" * 1_024), done(2)),
         (spans(), shown(2, {"link": "u" * 1_024, "text": "a"})),
     ],
     "limits": [
-        (insert(0, "x" * 257), refused(7, "limit")), (insert(0, "x" * 256), done(256)), (delete(256, 1), refused(5, "range")),
-        (delete(255, 2), refused(5, "range")), (line(op="delete", doc=1, at=255, count=1, rev=255), refused(6, "stale")),
+        (insert(0, "x" * 257), refused(7)), (insert(0, "x" * 256), done(256)), (delete(256, 1), refused(5)),
+        (delete(255, 2), refused(5)), (line(op="delete", doc=1, at=255, count=1, rev=255), refused(6)),
         (line(op="delete", doc=1, at=255, count=1, rev=256), done(257)),
     ],
     "lines that are no requests": [
-        (b"[\n", refused(2, "syntax")), (b"\n", refused(2, "syntax")), (b"\xff\n", refused(2, "syntax")),
-        (b'{"op":"fly"}\n', refused(3, "request")), (b"7\n", refused(3, "request")),
-        (line(op="insert", doc=1, at=0, text=""), refused(4, "field")), (b" " * 65_537 + b"\n", refused(11, "line")),
-        (b" " * 65_536 + b"\n", refused(2, "syntax")), (insert(0, "a"), done(1)),
+        (b"[\n", refused(2)), (b"\n", refused(2)), (b"\xff\n", refused(2)),
+        (b'{"op":"fly"}\n', refused(3)), (b"7\n", refused(3)),
+        (line(op="insert", doc=1, at=0, text=""), refused(4)), (b" " * 65_537 + b"\n", refused(11)),
+        (b" " * 65_536 + b"\n", refused(2)), (insert(0, "a"), done(1)),
     ],
 }
 

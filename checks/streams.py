@@ -5,7 +5,8 @@ import json
 import os
 import subprocess
 
-from program import REPLICA, WORDS, insert, new_file, read, run, text_of, texts, write
+from agreed import WORDS
+from program import REPLICA, insert, new_file, read, run, text_of, texts, write
 from words import MADE, OK, ONE
 
 SETS = [set(some) for count in range(4) for some in itertools.combinations(range(3), count)]

@@ -6,10 +6,10 @@ import shutil
 import socket
 import subprocess
 
+from agreed import sentences
 from daemon import HOST, free_ports
 from locks import Session, as_nobody
 from program import REPLICA, fault, insert, line, new_file, run, write
-from sentences import sentences
 from words import MADE
 
 STATUS = line(op="status")

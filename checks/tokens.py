@@ -11,6 +11,7 @@ import threading
 import time
 import uuid
 
+from agreed import refused
 from daemon import Daemon, Talk, free_ports, new_daemon, within
 from program import NAME, PAGE, REPLICA, Checks, delete, insert, line, new_file, read, run, text_of, texts
 
@@ -18,7 +19,7 @@ TOKEN = "00000000-0000-4000-8000-0000000000d1"
 OTHER = "00000000-0000-4000-8000-0000000000d2"
 PEER = REPLICA[:-1] + "2"
 STOP, TEXT = line(op="stop"), line(op="text", doc=1)
-OK, STALE, RANGE, FIELD = {"ok": True}, {"code": 6, "error": "stale", "ok": False}, {"code": 5, "error": "range", "ok": False}, {"code": 4, "error": "field", "ok": False}
+OK, STALE, RANGE, FIELD = {"ok": True}, refused(6), refused(5), refused(4)
 STOPPING, FAILED = {"code": 12, "error": "stopping", "ok": False}, {"code": 9, "error": "failed", "ok": False}
 # The record of the first edit below: an insert with its token behind the deps.
 FIRST = bytes.fromhex("00000033" "11" "00000001" "0000000000000001") + NAME + bytes.fromhex("00" "000000000000400080000000000000d1" "00" "00000061")

@@ -4,18 +4,18 @@ import json
 import socket
 import time
 
+from agreed import LIMITS, refused
 from beside import again, seat
 from daemon import PATIENCE, connection, new_daemon, within
 from program import insert, line, new_file, run
 
-PLACES = 32
+PLACES = LIMITS["sessions"]
 # Edits in a row for which a reader reads nothing.
 MANY = 1_000
 # Seconds within which a line comes after the edit's answer, in half of the cases: a watch that only looks now and then takes longer. And those in
 # which none is to come.
 SOON, QUIET = 0.1, 0.6
-BUSY = {"code": 8, "error": "busy", "ok": False}
-REQUEST = {"code": 3, "error": "request", "ok": False}
+BUSY, REQUEST = refused(8), refused(3)
 PEERS, STATUS, TEXT = line(op="peers"), line(op="status"), line(op="text", doc=1)
 
 

@@ -7,6 +7,7 @@ import socket
 import threading
 import time
 
+from agreed import refused
 from beside import resident
 from daemon import PATIENCE, new_daemon
 from program import insert, line, run
@@ -17,8 +18,8 @@ MANY = 1_024
 # Sessions that edit at once, and edits of each, some at a time.
 SESSIONS, EACH, ROW = 4, 500, 50
 # Bytes that the daemon may grow by more while a watcher doesn't read than by as many edits before: an unproved program swings by half of that.
-GROWTH = 32_000_000
-REQUEST = {"code": 3, "error": "request", "ok": False}
+GROWTH = 4_000_000
+REQUEST = refused(3)
 STATUS = line(op="status")
 
 

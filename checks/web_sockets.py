@@ -7,6 +7,7 @@ import json
 import threading
 import time
 
+from agreed import LIMITS, refused
 from daemon import HOST, PATIENCE, Daemon, connection, free_ports, new_daemon, within
 from journal import events, only
 from program import fault, insert, line, run
@@ -14,7 +15,7 @@ from web_frames import BINARY, CLOSE, PING, PONG, TEXT, WebSocket, accept_of, fr
 
 PAGE = "http://localhost:8080"
 OTHER = "https://page.example"
-PLACES = 32
+PLACES = LIMITS["sessions"]
 # Seconds that a busy machine takes more.
 SLACK = 3
 LONGEST = 65_536
@@ -22,7 +23,7 @@ LONGEST = 65_536
 LONG_FRAME = b"\x81\xff"
 # Edits of 255 characters, whose text makes an answer longer than 65,536 bytes.
 PARTS = 300
-BUSY = {"code": 8, "error": "busy", "ok": False}
+BUSY = refused(8)
 SYNTAX = {"code": 2, "error": "syntax", "ok": False}
 LONG = {"code": 11, "error": "line", "ok": False}
 STATUS, STOP = line(op="status"), line(op="stop")

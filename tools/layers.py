@@ -1,64 +1,81 @@
-"""The picture of the layers, docs/layers.svg, from crates.txt: python3 tools/layers.py > docs/layers.svg, from the project's root.
+"""The layers of crates.txt: their picture, docs/layers.svg, and crates/README.md, which says what each crate is.
 
-Each crate of code stands in just one box, and a box stands on boxes below it alone: where crates.txt says otherwise, it says so and draws
-nothing. Crates of tests aren't drawn.
+    python3 tools/layers.py            from the project's root: writes both
+    python3 tools/layers.py --check    fails where one of them isn't as it would be written
+
+Each crate of code stands in just one layer, and on layers that are drawn below it alone: where crates.txt says otherwise, this says so and
+writes nothing. Crates of tests aren't drawn.
 """
 
+import collections
 import html
+import re
 import sys
 
 WIDTH, ROW, GAP, MARGIN, LINE = 900, 26, 14, 16, 15
-LEFT_OUT = "_tests"
+CRATES, PICTURE, PAGE = "crates.txt", "docs/layers.svg", "crates/README.md"
+TESTS = "tests"
+# Most crates name these.
+EVERYWHERE = ("fixed_numbers", "thiserror")
+PREFACE = """# The crates
 
-# From the top down: a row of boxes, each with its name, its colour, and its crates, the lowest last.
+Layers, the lowest first, as `crates.txt` has them; `python3 tools/layers.py` writes this page from it, and from the first
+sentence of each crate. Almost all stand on `fixed_numbers` and `thiserror` too.
+
+![Each layer stands on those below it](../docs/layers.svg)
+"""
+
+# From the top down: the rows of layers, each with its colour.
 ROWS = (
-    (("the program", "#e3f2fd", "edit_shell serve_threads store_orders command_words program_commands command_syntax"),),
-    (
-        ("sessions", "#e8f5e9", "shared_desk session_threads web_guests web_lines watch_lines first_bytes daemon_asking session_lines"),
-        ("links", "#f1f8e9", "link_threads link_speaker causal_sync event_journal"),
-    ),
-    (
-        ("a hub: what a lock guards, and the part that commits", "#fff8e1", "shared_hub locked_replica hub_parts recovery pass_books"),
-        ("what is shown and told", "#f9fbe7", "file_listing span_export text_search"),
-    ),
-    (
-        ("a replica and its documents", "#fff3e0", "replica_core doc_core span_flatten mark_anchors char_sequence comment_marks edit_tokens placed_edits"),
-        ("the store in a file", "#fbe9e7", "group_commit root_reports root_slots page_file disk_trait"),
-    ),
-    (
-        ("operations as bytes", "#f3e5f5", "stream_list run_list op_list piece_codec change_codec op_pieces"),
-        ("worlds, and plain programs", "#ede7f6", "world_law slow_programs"),
-    ),
-    (("the ground: the model, names, streams", "#eceff1", "model_laws op_model op_ids peer_counts byte_streams ghost_lists fixed_numbers"),),
+    (("the program", "#e3f2fd"),),
+    (("sessions", "#e8f5e9"), ("links", "#f1f8e9")),
+    (("a hub: what a lock guards, and the part that commits", "#fff8e1"), ("what is shown and told", "#f9fbe7")),
+    (("a replica and its documents", "#fff3e0"), ("the store in a file", "#fbe9e7")),
+    (("operations as bytes", "#f3e5f5"), ("worlds, and plain programs", "#ede7f6")),
+    (("the ground: the model, names, streams", "#eceff1"),),
 )
 
+# A layer: the line that tells of it, and what each of its crates stands on.
+Layer = collections.namedtuple("Layer", "told crates")
 
-def stands_on(path):
-    """What each crate of the file stands on."""
-    found = {}
+
+def layers_of(path):
+    """The layers of the file, by their titles."""
+    found, title = {}, None
     with open(path, encoding="utf-8") as file:
         for line in file:
-            line = line.split("#")[0].strip()
-            if line:
+            if line.startswith("#:"):
+                title = line[2:].strip()
+                found[title] = Layer(next(file)[1:].strip(), {})
+            elif ":" in line and not line.startswith("#"):
                 name, _, below = line.partition(":")
-                found[name.split()[0]] = below.split()
+                found[title].crates[name.split()[0]] = below.split()
     return found
 
 
-def faults(crates, drawn):
+def sentence(crate):
+    """The first sentence of what a crate says of itself."""
+    for top in ("lib", "main"):
+        try:
+            with open(f"crates/{crate}/src/{top}.rt", encoding="utf-8") as file:
+                text = file.read()
+        except OSError:
+            continue
+        first = " ".join(line[3:].strip() for line in re.match(r"(?://![^\n]*\n)+", text)[0].split("//!\n")[0].splitlines())
+        return re.match(r".*?[.](?= |$)", first)[0]
+    return ""
+
+
+def faults(layers, drawn):
     """What of crates.txt the picture doesn't show as it is; drawn gives a crate's row and box."""
-    for name, below in crates.items():
-        if name.endswith(LEFT_OUT):
-            continue
-        if name not in drawn:
-            yield f"{name} stands in no box"
-            continue
-        for other in below:
-            if other in drawn and drawn[other] != drawn[name] and drawn[other][0] <= drawn[name][0]:
-                yield f"{name} stands on {other}, which isn't drawn below it"
-    for name in drawn:
-        if name not in crates:
-            yield f"{name} is no crate"
+    for title in layers:
+        if title != TESTS and not any(title == it for row in ROWS for it, _ in row):
+            yield f"the layer {title} isn't drawn"
+    for title, layer in layers.items():
+        for name, below in layer.crates.items():
+            for other in below:
+                if title != TESTS and other in drawn and drawn[other] != drawn[name] and drawn[other][0] <= drawn[name][0]:
+                    yield f"{name} stands on {other}, which isn't drawn below it"
 
 
 def lines_of(words, width):
@@ -80,14 +97,15 @@ def box(x, y, width, height, title, colour, lines):
         yield f'<text x="{x + 8}" y="{y + 38 + LINE * i}" xml:space="preserve">{html.escape(line)}</text>'
 
 
-def picture():
+def picture(layers):
     y, parts = MARGIN, []
     for row in ROWS:
-        total = sum(len(crates) + 40 for _, _, crates in row)
+        of = [list(reversed(layers[title].crates)) for title, _ in row]
+        lengths = [len(" ".join(crates)) + 40 for crates in of]
         space, x, boxes = WIDTH - 2 * MARGIN - GAP * (len(row) - 1), MARGIN, []
-        for title, colour, crates in row:
-            width = space * (len(crates) + 40) // total
-            boxes.append((x, width, title, colour, lines_of(crates.split(), width)))
+        for (title, colour), crates, length in zip(row, of, lengths):
+            width = space * length // sum(lengths)
+            boxes.append((x, width, title, colour, lines_of(crates, width)))
             x += width + GAP
         height = ROW + 10 + LINE * max(len(lines) for *_, lines in boxes)
         for x, width, title, colour, lines in boxes:
@@ -97,17 +115,31 @@ def picture():
     return [f'<svg xmlns="http://www.w3.org/2000/svg" {size} font-family="sans-serif" font-size="12">', f'<rect {size} fill="white"/>', *parts, "</svg>"]
 
 
+def page(layers):
+    """What each layer and each crate is."""
+    yield PREFACE.rstrip("\n")
+    for title, layer in layers.items():
+        yield f"\n## {title[0].upper()}{title[1:]}\n\n{layer.told}\n\n| Crate | What it is | Stands on |\n|---|---|---|"
+        for name, below in layer.crates.items():
+            others = ", ".join(f"`{it}`" for it in below if it not in EVERYWHERE)
+            yield f"| `{name}` | {sentence(name)} | {others} |"
+
+
 def main():
-    drawn = {}
-    for i, row in enumerate(ROWS):
-        for j, (_, _, crates) in enumerate(row):
-            drawn.update({name: (i, j) for name in crates.split()})
-    found = list(faults(stands_on("crates.txt"), drawn))
-    for fault in found:
-        print(fault, file=sys.stderr)
+    layers = layers_of(CRATES)
+    drawn = {name: (i, j) for i, row in enumerate(ROWS) for j, (title, _) in enumerate(row) for name in layers[title].crates}
+    found = list(faults(layers, drawn))
+    for path, lines in ((PICTURE, picture(layers)), (PAGE, page(layers))):
+        text = "\n".join(lines) + "\n"
+        if found:
+            break
+        if "--check" not in sys.argv[1:]:
+            with open(path, "w", encoding="utf-8") as file:
+                file.write(text)
+        elif open(path, encoding="utf-8").read() != text:
+            found.append(f"{path} isn't what `python3 tools/layers.py` writes")
     if found:
-        sys.exit(1)
-    print("\n".join(picture()))
+        sys.exit("\n".join(found))
 
 
 if __name__ == "__main__":

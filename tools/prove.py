@@ -26,7 +26,7 @@ PROOF, TESTS = "proof", "tests"
 # The most jobs of one check, where nothing else waits.
 MOST_JOBS = 4
 # A longer pause between two files of a check is one between two checks.
-PAUSE = 120
+PAUSE = 600
 
 
 def kit():

@@ -1,7 +1,9 @@
 /** Edits that are made at once: all of them or none, and nothing comes between them. */
 
 import { NEVER } from "./again.js";
+import { LINE_BYTES, TAKEN_CHARACTERS } from "./limit_table.js";
 import { lengthOf } from "./places.js";
+import { ONE_LINE } from "./refusal_table.js";
 import { LONGEST, MANY, broken, isLasting, isLong, isWhole, lastingOf } from "./rules.js";
 
 /**
@@ -38,15 +40,9 @@ import { LONGEST, MANY, broken, isLasting, isLong, isWhole, lastingOf } from "./
 /** A number that no place of a text has: one whose character isn't known is refused as such a number is (5). */
 export const BEYOND = 2 ** 31;
 
-/** How many bytes a line may have. */
-const LINE = 65_536;
-
 /** What stands around the edits of a line, as long as it can be: a call that is sent again is parted as it was. */
 const AROUND = { op: "edits", doc: NEVER, rev: NEVER, token: "urn:uuid:00000000-0000-0000-0000-000000000000", edits: [] };
-const ROOM = LINE - bytesOf(AROUND);
-
-/** How many characters a line takes away, where edits may be parted: in any file so many can wait together for the disk. */
-const TAKEN = 2_048;
+const ROOM = LINE_BYTES - bytesOf(AROUND);
 
 /**
  * Edits as they are sent. What is no list is refused as it is.
@@ -166,8 +162,8 @@ export function* linesOf(pieces, parted) {
   let taken = 0;
   for (const piece of pieces) {
     const [size, count] = [bytesOf(piece.edit) + (piece.more ?? 0), takenBy(piece.edit)];
-    if (line.length > 0 && (line.length === MANY || size > room || (parted && taken + count > TAKEN))) {
-      if (!parted) throw new RangeError(TOO_MUCH);
+    if (line.length > 0 && (line.length === MANY || size > room || (parted && taken + count > TAKEN_CHARACTERS))) {
+      if (!parted) throw new RangeError(ONE_LINE);
       yield line;
       [line, room, taken] = [[], ROOM, 0];
     }
@@ -177,8 +173,6 @@ export function* linesOf(pieces, parted) {
   }
   if (line.length > 0) yield line;
 }
-
-const TOO_MUCH = "one line takes 1,024 edits, of at most 256 characters each, and 65,536 bytes: make several actions, or let it be parted";
 
 /** @param {unknown} text */
 function isCut(text) {

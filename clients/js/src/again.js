@@ -1,11 +1,13 @@
 /** Edits that are sent again, and how often each of them is made all the same: once. */
 
+import { WHOLE } from "./limit_table.js";
 import { Stale } from "./refusals.js";
+import { ONE } from "./request_table.js";
 
-const EDITS = new Set(["insert", "delete", "mark", "unmark", "edits"]);
+const EDITS = new Set([...ONE, "edits"]);
 
 /** No document has so many operations: an edit that names this `rev` is never made, and answered only if it was made before. */
-export const NEVER = 2 ** 32 - 1;
+export const NEVER = WHOLE;
 
 /**
  * The fields of a request.

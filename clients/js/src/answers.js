@@ -1,5 +1,6 @@
 /** The answers that a line can be: those of docs/PROTOCOL.md, and nothing else. */
 
+import { PARTS } from "./counting.js";
 import { refused } from "./refusals.js";
 
 /** A line that is no answer to its request, and why. */
@@ -125,6 +126,14 @@ function all(fields) {
   return (/** @type {any} */ value) => Array.isArray(value) && value.every(isOne);
 }
 
+/**
+ * Whether each has its fields, and their numbers rise.
+ * @param {any} value
+ */
+function areDocuments(value) {
+  return ROWS(value) && risingFrom(1)(value.map((/** @type {any} */ { doc }) => doc));
+}
+
 /** @param {any} value */
 function isSpan(value) {
   return areMarks(value) && isText(value.text);
@@ -172,6 +181,7 @@ const STEPS = new Map(
   })),
 );
 const PEERS = all({ has: isNumber, lacks: isNumber, replica: isText });
+const ROWS = all({ doc: isCount, chars: isNumber, ops: isCount, writers: areTexts });
 const REFUSAL = { code: isNumber, error: isText };
 const EDITED = { rev: isNumber };
 
@@ -193,6 +203,8 @@ const FIELDS = new Map(
     places: { rev: isNumber, places: arePlaces },
     status: { applied: isNumber, settled: isNumber, state: isText },
     peers: { peers: PEERS, sessions: isNumber },
+    documents: { documents: areDocuments },
+    room: Object.fromEntries(PARTS.flatMap((part) => [part, `${part}_limit`]).map((name) => [name, isNumber])),
     export: { rev: isNumber, text: isText },
     watch: EDITED,
   })),

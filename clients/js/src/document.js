@@ -54,6 +54,11 @@ import { LONGEST, isLasting, isWhole } from "./rules.js";
  */
 
 /**
+ * A page's: whether it has breaks of the line in place of paragraphs.
+ * @typedef {Abortable & {breaks?: boolean}} ExportOptions
+ */
+
+/**
  * A document, by its number. Places are counted in characters (Unicode scalar values), from 0; `read` gives a text with
  * edits that are counted as JavaScript's strings are. An edit may name the `rev` that it was made for, which this session
  * has to have read.
@@ -214,12 +219,16 @@ export class Document {
   }
 
   /**
-   * The text as a page, with its marks: `html`, `markdown`, or `text` without them.
+   * The text as a page, with its marks: `html`, `markdown`, or `text` without them. Each line of it is a paragraph, an empty
+   * one too, or a break of the line where `breaks` is `true`.
    * @param {Form} form
-   * @param {Abortable} [options]
+   * @param {ExportOptions} [options]
    */
   async export(form, options) {
-    return (await this.session.send({ op: "export", doc: this.number, to: form }, options)).text;
+    const breaks = options?.breaks;
+    // An earlier program knows no `breaks`: it is sent only if it says something.
+    const fields = { op: "export", doc: this.number, to: form, breaks: breaks === false ? undefined : breaks };
+    return (await this.session.send(fields, options)).text;
   }
 
   /**

@@ -11,10 +11,13 @@
  * @typedef {import("./changing.js").Marks} Marks
  * @typedef {import("./changing.js").Step} Step
  * @typedef {import("./connecting.js").Options} ConnectOptions
+ * @typedef {import("./counting.js").DocumentCounts} DocumentCounts
+ * @typedef {import("./counting.js").Room} Room
  * @typedef {import("./document.js").ActionOptions} ActionOptions
  * @typedef {import("./document.js").AnchorOptions} AnchorOptions
  * @typedef {import("./document.js").AskOptions} AskOptions
  * @typedef {import("./document.js").EditOptions} EditOptions
+ * @typedef {import("./document.js").ExportOptions} ExportOptions
  * @typedef {import("./document.js").FindOptions} FindOptions
  * @typedef {import("./document.js").Form} Form
  * @typedef {import("./document.js").Side} Side

@@ -1,5 +1,8 @@
 /** The rules of a request's fields, as docs/FORMATS.md has them, and which of them a request breaks. */
 
+import { COUNTER, EDITS, EDIT_CHARACTERS, PLACES, URL_BYTES, WATCHED, WHOLE } from "./limit_table.js";
+import { ALL, BESIDE, FORMS, KINDS, NEEDED, ONE, OPTIONAL, PLACE_FIELDS, RULES, SIDES } from "./request_table.js";
+
 /** @typedef {Record<string, unknown>} Request */
 
 /**
@@ -7,94 +10,12 @@
  * @typedef {"start" | "end" | `a${number}@${string}` | `b${number}@${string}`} Lasting
  */
 
-/** How many characters one edit may put in, or take away. */
-export const LONGEST = 256;
-
-/** How many places one request may ask for. */
-export const MOST = 256;
-
-/** How many edits one request may make. */
-export const MANY = 1_024;
-
-/** How many places one answer tells where a text stands, and how many documents one watch may have. */
-export const FOUND = 1_024;
-export const WATCHED = 1_024;
-
 /**
- * The fields that a request needs, and those that a mark needs beside them, or a watch of many documents in their place.
- * @type {Record<string, string>}
+ * How many characters one edit may put in or take away, how many places one request may ask for, and how many edits it may
+ * make; how many places one answer tells where a text stands, and how many documents one watch may have.
  */
-const NEEDED = {
-  insert: "doc at text",
-  delete: "doc at count",
-  mark: "doc from to kind",
-  unmark: "doc from to kind",
-  edits: "doc edits",
-  text: "doc",
-  spans: "doc",
-  changes: "doc since",
-  anchors: "doc at side",
-  places: "doc anchors",
-  find: "doc text",
-  export: "doc to",
-  watch: "doc",
-};
-/** @type {Record<string, string>} */
-const BESIDE = {
-  "mark link": "url",
-  "mark comment": "id",
-  "unmark comment": "id",
-  "watch docs": "docs",
-};
+export { EDIT_CHARACTERS as LONGEST, PLACES as MOST, EDITS as MANY, FOUND, WATCHED } from "./limit_table.js";
 
-/**
- * The fields that an edit may have, and a search.
- * @type {Record<string, string>}
- */
-const OPTIONAL = {
-  insert: "rev token",
-  delete: "rev token",
-  mark: "rev token",
-  unmark: "rev token",
-  edits: "rev token",
-  find: "from",
-};
-
-/** The requests that may be made by one of `edits`, and the fields that stand beside the list. */
-const ONE = new Set(["insert", "delete", "mark", "unmark"]);
-const ALL = ["doc", "rev", "token"];
-
-/** The fields of an edit that are places of the text. */
-const PLACES = ["at", "from", "to"];
-
-/**
- * What each field has to be, of any request, or of one in particular.
- * @type {Record<string, string>}
- */
-const RULES = {
-  doc: "a whole number from 1 to 4294967295",
-  count: "a whole number from 1 to 4294967295",
-  at: "a whole number from 0 to 4294967295, or a place that lasts",
-  from: "a whole number from 0 to 4294967295, or a place that lasts",
-  to: "a whole number from 0 to 4294967295, or a place that lasts",
-  rev: "a whole number from 0 to 4294967295",
-  since: "a whole number from 0 to 4294967295",
-  text: "a text of at least one character",
-  kind: "strong, em, link or comment",
-  url: "a text of 1 to 1024 bytes",
-  id: "a UUID",
-  token: "a UUID other than the nil one",
-  "anchors at": "a list of 1 to 256 whole numbers from 0 to 4294967295",
-  side: "previous or next",
-  anchors: "a list of 1 to 256 places that last, each a text as the request `anchors` gives it",
-  edits: "a list of 1 to 1024 edits, each an insert, delete, mark or unmark without `doc`, `rev` and `token`",
-  "find text": "a text of 1 to 256 characters",
-  "find from": "a whole number from 0 to 4294967295",
-  "export to": "text, markdown or html",
-  docs: "a list of 1 to 1024 whole numbers from 1 to 4294967295, or all",
-};
-const KINDS = new Set(["strong", "em", "link", "comment"]);
-const FORMS = new Set(["text", "markdown", "html"]);
 const UUID = /^(urn:uuid:|\{)?[0-9a-f]{8}(-?[0-9a-f]{4}){3}-?[0-9a-f]{12}\}?$/i;
 const NIL = /^(urn:uuid:)?[0{}-]*$/;
 const BESIDE_CHARACTER = /^[ab]([1-9][0-9]{0,14})@([0-9a-fA-F]{8}(?:-[0-9a-fA-F]{4}){3}-[0-9a-fA-F]{12})$/;
@@ -136,7 +57,7 @@ function brokenByOne(edits) {
  */
 export function isLong({ text, count, edits }) {
   if (areEdits(edits)) return edits.some(isLong);
-  return (typeof text === "string" && [...text].length > LONGEST) || (isWhole(count, 0) && Number(count) > LONGEST);
+  return (typeof text === "string" && [...text].length > EDIT_CHARACTERS) || (isWhole(count, 0) && Number(count) > EDIT_CHARACTERS);
 }
 
 /**
@@ -144,7 +65,7 @@ export function isLong({ text, count, edits }) {
  * @param {number} least
  */
 export function isWhole(value, least) {
-  return Number.isInteger(value) && Number(value) >= least && Number(value) < 2 ** 32;
+  return Number.isInteger(value) && Number(value) >= least && Number(value) <= WHOLE;
 }
 
 /**
@@ -185,7 +106,7 @@ function isText(value) {
 
 /** @param {any} value */
 function isUrl(value) {
-  return isText(value) && new TextEncoder().encode(value).length <= 1024;
+  return isText(value) && new TextEncoder().encode(value).length <= URL_BYTES;
 }
 
 /** @param {any} value */
@@ -205,7 +126,7 @@ function isToken(value) {
  */
 export function isLasting(value) {
   const [, counter, replica] = (typeof value === "string" && BESIDE_CHARACTER.exec(value)) || [];
-  return counter === undefined ? value === "start" || value === "end" : Number(counter) < 2 ** 48 && isToken(replica);
+  return counter === undefined ? value === "start" || value === "end" : Number(counter) <= COUNTER && isToken(replica);
 }
 
 /** @param {unknown} value */
@@ -219,7 +140,7 @@ function isPlace(value) {
  * @returns {[string, Lasting][]}
  */
 export function lastingOf(edit) {
-  return PLACES.filter((name) => isLasting(edit?.[name])).map((name) => [name, edit[name]]);
+  return PLACE_FIELDS.filter((name) => isLasting(edit?.[name])).map((name) => [name, edit[name]]);
 }
 
 /**
@@ -233,7 +154,7 @@ export function isPlaced(request) {
 
 /** @param {any} value */
 function isEdit(value) {
-  return typeof value === "object" && value !== null && ONE.has(value.op) && ALL.every((name) => value[name] === undefined);
+  return typeof value === "object" && value !== null && ONE.includes(value.op) && ALL.every((name) => value[name] === undefined);
 }
 
 /**
@@ -248,13 +169,13 @@ export function areEdits(value) {
  * @param {(value: unknown) => boolean} holds
  * @param {number} most
  */
-function some(holds, most = MOST) {
+function some(holds, most = PLACES) {
   return (/** @type {any} */ value) => Array.isArray(value) && value.length >= 1 && value.length <= most && value.every(holds);
 }
 
 /** @param {any} value */
 function isSought(value) {
-  return isText(value) && [...value].length <= LONGEST;
+  return isText(value) && [...value].length <= EDIT_CHARACTERS;
 }
 
 /** @type {Record<string, (value: unknown) => boolean>} */
@@ -267,16 +188,17 @@ const HOLDS = {
   rev: from(0),
   since: from(0),
   text: isText,
-  kind: (value) => KINDS.has(/** @type {string} */ (value)),
+  kind: (value) => KINDS.includes(/** @type {string} */ (value)),
   url: isUrl,
   id: isUuid,
   token: isToken,
   "anchors at": some(from(0)),
-  side: (value) => value === "previous" || value === "next",
+  side: (value) => SIDES.includes(/** @type {string} */ (value)),
   anchors: some(isLasting),
-  edits: some(isEdit, MANY),
+  edits: some(isEdit, EDITS),
   "find text": isSought,
   "find from": from(0),
-  "export to": (value) => FORMS.has(/** @type {string} */ (value)),
+  "export to": (value) => FORMS.includes(/** @type {string} */ (value)),
+  breaks: (value) => typeof value === "boolean",
   docs: (value) => value === "all" || some(from(1), WATCHED)(value),
 };

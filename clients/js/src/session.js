@@ -3,18 +3,19 @@
 import { throwIfAborted, untilAborted } from "./aborting.js";
 import { isEdit, repeated, withToken } from "./again.js";
 import { NoAnswer, answerOf } from "./answers.js";
+import { countsOf, roomOf } from "./counting.js";
 import { Document } from "./document.js";
 import { Finder, RETRY, cut } from "./finder.js";
 import { check } from "./milliseconds.js";
 import { Due, Owed } from "./owing.js";
+import { STEPS } from "./refusal_table.js";
 import { Ended, Refused } from "./refusals.js";
 import { Silence, TIMEOUT } from "./silence.js";
 
-/** The refusal of a daemon that is about to open its file anew. */
-const STEPS = 10;
-
 /**
  * @typedef {import("./aborting.js").Abortable} Abortable
+ * @typedef {import("./counting.js").DocumentCounts} DocumentCounts
+ * @typedef {import("./counting.js").Room} Room
  * @typedef {import("./wire.js").Answer} Answer
  * @typedef {import("./wire.js").Transport} Transport
  */
@@ -129,6 +130,26 @@ export class Session {
   async peers(options) {
     const { peers, sessions } = await this.send({ op: "peers" }, options);
     return { peers, sessions };
+  }
+
+  /**
+   * What is counted of each document that has operations, in rising order of their numbers. What isn't settled yet is counted,
+   * as `text` shows it. It costs nothing for the characters of a document. An earlier program refuses it (3).
+   * @param {Abortable} [options]
+   * @returns {Promise<DocumentCounts[]>}
+   */
+  async documents(options) {
+    return countsOf(await this.send({ op: "documents" }, options));
+  }
+
+  /**
+   * How much the file has of what there is a limit to, with the limits: what `peritext list` says of a file, and the steps since
+   * it was opened. An earlier program refuses it (3).
+   * @param {Abortable} [options]
+   * @returns {Promise<Room>}
+   */
+  async room(options) {
+    return roomOf(await this.send({ op: "room" }, options));
   }
 
   /**

@@ -4,10 +4,8 @@ import { needSignal } from "./aborting.js";
 import { NoAnswer, answerOf } from "./answers.js";
 import { RETRY, cut } from "./finder.js";
 import { check } from "./milliseconds.js";
+import { BUSY } from "./refusal_table.js";
 import { Ended, Refused } from "./refusals.js";
-
-/** The refusal of a daemon that has no place. */
-const BUSY = 8;
 
 /** Milliseconds in which somebody who is there has to have said the first number, and between two looks for a daemon that went. */
 const PATIENCE = 10_000;

@@ -18,8 +18,9 @@
  * @typedef {import("./marks.js").Span} Span
  * @typedef {import("./changing.js").Step} Step
  * @typedef {{has: number, lacks: number, replica: string}} Peer
+ * @typedef {{chars: number, doc: number, ops: number, writers: string[]}} Row
  * @typedef {{ok: true, rev: number, text: string, spans: Span[], changes: Step[], anchors: import("./rules.js").Lasting[], places: (number | null)[],
- *   applied: number, settled: number, state: string, peers: Peer[], sessions: number, doc: number}} Answer
+ *   applied: number, settled: number, state: string, peers: Peer[], sessions: number, doc: number, documents: Row[] | number}} Answer
  */
 
 export {};

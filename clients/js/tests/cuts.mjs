@@ -22,6 +22,12 @@ const EXCHANGES = {
   "a refusal": [{ op: "insert", doc: 1, at: 9, text: "x" }, '{"code":5,"error":"range","ok":false}'],
   "a status": [{ op: "status" }, '{"applied":12,"ok":true,"settled":12,"state":"open"}'],
   peers: [{ op: "peers" }, '{"ok":true,"peers":[{"has":12,"lacks":0,"replica":"00000000-0000-4000-8000-000000000002"}],"sessions":3}'],
+  documents: [{ op: "documents" }, '{"documents":[{"chars":3,"doc":3,"ops":7,"writers":["0f5d2c4e-9a1b-4c3d-8e7f-112233445566"]}],"ok":true}'],
+  room: [
+    { op: "room" },
+    '{"bytes":614,"bytes_limit":1073741824,"documents":2,"documents_limit":1024,"ok":true,"operations":8,"operations_limit":16777216,' +
+      '"replicas":1,"replicas_limit":16,"steps":6,"steps_limit":1048576}',
+  ],
 };
 const TEXT = { op: "text", doc: 1 };
 

@@ -6,6 +6,9 @@ const TOKEN = /^(?!0{8}-0{4}-0{4}-0{4}-0{12}$)[0-9a-f]{8}(-[0-9a-f]{4}){3}-[0-9a
 const WORDS = { 2: "syntax", 3: "request", 4: "field", 5: "range", 6: "stale", 7: "limit", 12: "stopping" };
 const READS = new Set(["text", "spans", "changes", "find", "export"]);
 const EDITS = new Set(["insert", "delete", "mark", "unmark"]);
+/** The replica of all stores. */
+const WRITER = "00000000-0000-4000-8000-000000000001";
+const LIMITS = { bytes_limit: 2 ** 30, documents_limit: 1_024, operations_limit: 2 ** 24, replicas_limit: 16, steps_limit: 2 ** 20 };
 /** How many edits are made at once. */
 const MANY = 1_024;
 
@@ -62,6 +65,8 @@ export class Store {
     const { op, doc, rev, token } = request;
     if (op === "status") return { applied: 0, settled: 0, state: "open" };
     if (op === "stop") return {};
+    if (op === "documents") return Object.keys(request).length > 1 ? 4 : { documents: this.#edited().map(([number, document]) => counted(number, document)) };
+    if (op === "room") return Object.keys(request).length > 1 ? 4 : room(this.#edited().map(([, document]) => document));
     if (!READS.has(op) && !EDITS.has(op) && op !== "edits") return 3;
     if (!Number.isInteger(doc) || doc < 1) return 4;
     if (op === "edits" && !areEdits(request.edits)) return 4;
@@ -74,6 +79,18 @@ export class Store {
     if (token !== undefined) this.#tokens.set(token, document.rev);
     return { rev: document.rev, ...told };
   }
+}
+
+/** What is counted of a document. */
+function counted(doc, document) {
+  return { chars: document.at(document.rev).length, doc, ops: document.rev, writers: [WRITER] };
+}
+
+/** Not as the program counts it: each operation takes as many bytes, and is a step. */
+function room(documents) {
+  const operations = documents.reduce((sum, { rev }) => sum + rev, 0);
+  const [has, replicas] = [documents.length, documents.length > 0 ? 1 : 0];
+  return { bytes: 63 * operations, documents: has, operations, replicas, steps: operations, ...LIMITS };
 }
 
 class FakeTransport {

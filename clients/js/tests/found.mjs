@@ -107,6 +107,19 @@ asked("a page in each form", async (session) => {
   assert.doesNotMatch(await text.export("text"), /</);
 });
 
+asked("a page has paragraphs or breaks", async (session) => {
+  const text = session.document(1);
+  await text.insert(0, "a\nb");
+  for (const options of [undefined, {}, { breaks: false }, { breaks: undefined }]) {
+    assert.match(await text.export("html", options), /a\n<\/p><p>b/);
+    assert.match(await text.export("markdown", options), /a\n\nb/);
+  }
+  assert.match(await text.export("html", { breaks: true }), /a\nb/);
+  assert.match(await text.export("markdown", { breaks: true }), /a\\\nb/);
+  assert.equal(await text.export("text", { breaks: true }), await text.export("text"));
+  for (const breaks of ["yes", 1, null]) await assert.rejects(text.export("html", { breaks }), { number: 4, message: /`breaks` has to be true or false/ });
+});
+
 test("an earlier program is named", async () => {
   for (const request of REQUESTS) {
     const session = new Session({

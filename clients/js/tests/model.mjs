@@ -109,11 +109,14 @@ export class Model {
     return { places };
   }
 
-  /** Not as the program does it: the marks are left out. */
-  export({ to, rev }) {
-    if (!["text", "markdown", "html"].includes(to) || rev !== undefined) return 4;
+  /** Not as the program does it: the marks are left out, and nothing is escaped. */
+  export({ to, rev, breaks = false }) {
+    if (!["text", "markdown", "html"].includes(to) || rev !== undefined || typeof breaks !== "boolean") return 4;
     const { text } = this.text();
-    return { text: to === "html" ? `<p>${text}</p>\n` : `${text}\n` };
+    if (to === "text") return { text };
+    const [one, parted] = to === "html" ? ["\n", "\n</p><p>"] : ["\\\n", "\n\n"];
+    const page = text.replaceAll("\n", breaks ? one : parted);
+    return { text: to === "html" ? `<p>${page}</p>\n` : `${page}\n` };
   }
 
   changes({ since, rev }) {

@@ -28,6 +28,7 @@ run("limits");
 run("again");
 run("changing");
 run("found");
+run("counted");
 run("watch_many");
 run("modelled");
 run("following");

@@ -39,7 +39,7 @@ export function answerOnce(session: import("./session.js").Session, edit: Reques
  */
 export function hasMade(session: import("./session.js").Session, edit: Request): Promise<boolean>;
 /** No document has so many operations: an edit that names this `rev` is never made, and answered only if it was made before. */
-export const NEVER: number;
+export const NEVER: 4294967295;
 /**
  * The fields of a request.
  */

@@ -35,6 +35,10 @@
  * @typedef {"text" | "markdown" | "html"} Form
  */
 /**
+ * A page's: whether it has breaks of the line in place of paragraphs.
+ * @typedef {Abortable & {breaks?: boolean}} ExportOptions
+ */
+/**
  * A document, by its number. Places are counted in characters (Unicode scalar values), from 0; `read` gives a text with
  * edits that are counted as JavaScript's strings are. An edit may name the `rev` that it was made for, which this session
  * has to have read.
@@ -151,11 +155,12 @@ export class Document {
         rev: number;
     }>;
     /**
-     * The text as a page, with its marks: `html`, `markdown`, or `text` without them.
+     * The text as a page, with its marks: `html`, `markdown`, or `text` without them. Each line of it is a paragraph, an empty
+     * one too, or a break of the line where `breaks` is `true`.
      * @param {Form} form
-     * @param {Abortable} [options]
+     * @param {ExportOptions} [options]
      */
-    export(form: Form, options?: import("./aborting.js").Abortable | undefined): Promise<string>;
+    export(form: Form, options?: ExportOptions | undefined): Promise<string>;
     /**
      * All places from one on (0, unless it is given) at which a text of 1 to 256 characters stands, overlapping ones too, and the
      * `rev` of the text in which it was looked for. They count characters (Unicode scalar values). More than 1,024 go as several
@@ -270,4 +275,10 @@ export type FindOptions = Abortable & {
  * The forms of a page.
  */
 export type Form = "text" | "markdown" | "html";
+/**
+ * A page's: whether it has breaks of the line in place of paragraphs.
+ */
+export type ExportOptions = Abortable & {
+    breaks?: boolean;
+};
 import { Reading } from "./reading.js";

@@ -44,6 +44,14 @@ export type ConnectOptions = import("./connecting.js").Options;
 /**
  * The types of what calls take and give.
  */
+export type DocumentCounts = import("./counting.js").DocumentCounts;
+/**
+ * The types of what calls take and give.
+ */
+export type Room = import("./counting.js").Room;
+/**
+ * The types of what calls take and give.
+ */
 export type ActionOptions = import("./document.js").ActionOptions;
 /**
  * The types of what calls take and give.
@@ -57,6 +65,10 @@ export type AskOptions = import("./document.js").AskOptions;
  * The types of what calls take and give.
  */
 export type EditOptions = import("./document.js").EditOptions;
+/**
+ * The types of what calls take and give.
+ */
+export type ExportOptions = import("./document.js").ExportOptions;
 /**
  * The types of what calls take and give.
  */

@@ -38,23 +38,9 @@ export function isPlaced(request: Request): boolean;
  * @returns {value is Request[]}
  */
 export function areEdits(value: unknown): value is Request[];
-/** The rules of a request's fields, as docs/FORMATS.md has them, and which of them a request breaks. */
-/** @typedef {Record<string, unknown>} Request */
-/**
- * The text of a place that lasts: the start or the end of the text, or just after or just before a character.
- * @typedef {"start" | "end" | `a${number}@${string}` | `b${number}@${string}`} Lasting
- */
-/** How many characters one edit may put in, or take away. */
-export const LONGEST: 256;
-/** How many places one request may ask for. */
-export const MOST: 256;
-/** How many edits one request may make. */
-export const MANY: 1024;
-/** How many places one answer tells where a text stands, and how many documents one watch may have. */
-export const FOUND: 1024;
-export const WATCHED: 1024;
 export type Request = Record<string, unknown>;
 /**
  * The text of a place that lasts: the start or the end of the text, or just after or just before a character.
  */
 export type Lasting = "start" | "end" | `a${number}@${string}` | `b${number}@${string}`;
+export { EDIT_CHARACTERS as LONGEST, PLACES as MOST, EDITS as MANY, FOUND, WATCHED } from "./limit_table.js";

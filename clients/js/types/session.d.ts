@@ -1,5 +1,7 @@
 /**
  * @typedef {import("./aborting.js").Abortable} Abortable
+ * @typedef {import("./counting.js").DocumentCounts} DocumentCounts
+ * @typedef {import("./counting.js").Room} Room
  * @typedef {import("./wire.js").Answer} Answer
  * @typedef {import("./wire.js").Transport} Transport
  */
@@ -59,6 +61,20 @@ export class Session {
         sessions: number;
     }>;
     /**
+     * What is counted of each document that has operations, in rising order of their numbers. What isn't settled yet is counted,
+     * as `text` shows it. It costs nothing for the characters of a document. An earlier program refuses it (3).
+     * @param {Abortable} [options]
+     * @returns {Promise<DocumentCounts[]>}
+     */
+    documents(options?: import("./aborting.js").Abortable | undefined): Promise<DocumentCounts[]>;
+    /**
+     * How much the file has of what there is a limit to, with the limits: what `peritext list` says of a file, and the steps since
+     * it was opened. An earlier program refuses it (3).
+     * @param {Abortable} [options]
+     * @returns {Promise<Room>}
+     */
+    room(options?: import("./aborting.js").Abortable | undefined): Promise<Room>;
+    /**
      * Has all that was edited settled, and no more edits taken (`Refused`, 12). A daemon ends with that, for all its
      * sessions and peers.
      * @param {Abortable} [options]
@@ -71,6 +87,8 @@ export class Session {
     #private;
 }
 export type Abortable = import("./aborting.js").Abortable;
+export type DocumentCounts = import("./counting.js").DocumentCounts;
+export type Room = import("./counting.js").Room;
 export type Answer = import("./wire.js").Answer;
 export type Transport = import("./wire.js").Transport;
 import { Document } from "./document.js";

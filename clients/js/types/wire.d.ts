@@ -39,6 +39,15 @@ export type Peer = {
 /**
  * An answer has those of these fields that its request asks for.
  */
+export type Row = {
+    chars: number;
+    doc: number;
+    ops: number;
+    writers: string[];
+};
+/**
+ * An answer has those of these fields that its request asks for.
+ */
 export type Answer = {
     ok: true;
     rev: number;
@@ -53,4 +62,5 @@ export type Answer = {
     peers: Peer[];
     sessions: number;
     doc: number;
+    documents: Row[] | number;
 };

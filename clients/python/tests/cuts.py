@@ -1,5 +1,6 @@
 """Answers that are cut, or are none: all who wait are told, and nobody is told a wrong thing."""
 
+import json
 import tempfile
 import threading
 import unittest
@@ -20,6 +21,12 @@ EXCHANGES = {
     "refusal": ({"op": "insert", "doc": 1, "at": 9, "text": "x"}, '{"code":5,"error":"range","ok":false}'),
     "status": ({"op": "status"}, '{"applied":12,"ok":true,"settled":12,"state":"open"}'),
     "peers": ({"op": "peers"}, '{"ok":true,"peers":[{"has":12,"lacks":0,"replica":"00000000-0000-4000-8000-000000000002"}],"sessions":12}'),
+    "documents": ({"op": "documents"}, '{"documents":[{"chars":3,"doc":3,"ops":7,"writers":["0f5d2c4e-9a1b-4c3d-8e7f-112233445566"]}],"ok":true}'),
+    "room": (
+        {"op": "room"},
+        '{"bytes":614,"bytes_limit":1073741824,"documents":2,"documents_limit":1024,"ok":true,"operations":8,"operations_limit":16777216,'
+        '"replicas":1,"replicas_limit":16,"steps":6,"steps_limit":1048576}',
+    ),
 }
 TEXT = EXCHANGES["text"][0]
 # What is no answer to a request for a text.
@@ -92,9 +99,7 @@ class Cut(Answered):
         if name == "refusal":
             self.assertEqual(str(answer.exception(PATIENCE)), str(peritext.Refused(5, "range")))
             return
-        told = answer.result(PATIENCE)
-        self.assertEqual(told["ok"], True)
-        self.assertEqual(next(told[it] for it in ("rev", "applied", "sessions") if it in told), 12)
+        self.assertEqual(answer.result(PATIENCE), json.loads(EXCHANGES[name][1]))
 
     def test_a_text(self):
         self.check_each_byte("text")
@@ -120,6 +125,10 @@ class Cut(Answered):
 
     def test_peers(self):
         self.check_each_byte("peers")
+
+    def test_what_is_counted(self):
+        self.check_each_byte("documents")
+        self.check_each_byte("room")
 
     def test_the_first_answer_of_a_session(self):
         """It is read before the session begins."""

@@ -60,6 +60,16 @@ class Asked:
         self.assertNotIn("<", text.export("text"))
         self.assertEqual(self.refusal(text.export, "pdf"), f"4 field: `to` has to be text, markdown or html{MEND}")
 
+    def test_a_page_has_paragraphs_or_breaks(self):
+        text = self.session.document(1)
+        text.insert(0, "a\nb")
+        self.assertIn("a\n</p><p>b", text.export("html"))
+        self.assertIn("a\nb", text.export("html", breaks=True))
+        self.assertIn("a\n\nb", text.export("markdown"))
+        self.assertIn("a\\\nb", text.export("markdown", True))
+        self.assertEqual(text.export("text", True), text.export("text", False))
+        self.assertEqual(self.refusal(text.export, "html", "yes"), f"4 field: `breaks` has to be true or false{MEND}")
+
     def refusal(self, call, *words):
         with self.assertRaises(peritext.Refused) as caught:
             call(*words)

@@ -79,10 +79,18 @@ class StandIn(FakeDaemon):
             found = [at for at in range(request.get("from", 0), len(text)) if text.startswith(request["text"], at)]
             return {"rev": rev, "places": found[:SOME]}
         if op == "export" and request["to"] in ("text", "markdown", "html"):
-            return {"rev": rev, "text": f"<p>{text}</p>\n" if request["to"] == "html" else text}
+            return self._page(text, rev, request)
         if op == "export":
             return {"code": 4, "error": "field"}
         return {"code": 3, "error": "request"}
+
+    def _page(self, text, rev, request):
+        """Not as the program does it: nothing is escaped."""
+        if not isinstance(request.get("breaks", False), bool):
+            return {"code": 4, "error": "field"}
+        one, parted = {"text": ("\n", "\n"), "markdown": ("\\\n", "\n\n"), "html": ("\n", "\n</p><p>")}[request["to"]]
+        page = text.replace("\n", one if request.get("breaks") else parted)
+        return {"rev": rev, "text": f"<p>{page}</p>\n" if request["to"] == "html" else page}
 
     def _edited(self, request):
         """Makes inserts alone."""

@@ -32,8 +32,13 @@ def waits() -> List[peritext.Span]:
         session.document(1).mark(caret, "end", peritext.EM)
         found: peritext.Found = session.document(1).find("fox", start=3)
         session.document(1).delete(found.places[0], 3, found.rev)
-        page: str = session.document(1).export("html")
+        page: str = session.document(1).export("html") + session.document(1).export("html", breaks=True)
         free: int = 100 - len(page)
+        counted: List[peritext.DocumentCounts] = session.documents()
+        writers: List[str] = [writer for it in counted for writer in it.writers]
+        room: peritext.Room = session.room()
+        free += room.bytes_limit - room.bytes + len(writers)
+        room.steps = 0  # type: ignore[misc]
         session.watch_many("every")  # type: ignore[arg-type]
         for number, told in session.watch_many([1, 2]):
             free -= number + told
@@ -55,7 +60,7 @@ async def awaits() -> int:
                 print(settled.doc, settled.rev)
         async with session.watch(1) as revs:
             async for rev in revs:
-                return rev + len(await notes.text())
+                return rev + len(await notes.text()) + (await session.documents())[0].number + (await session.room()).steps
     other: aio.Session = await aio.open("notes")
     place: int = await other.document(1).place("start")  # type: ignore[assignment]
     return place

@@ -40,11 +40,16 @@ abbrev pub optional_port_of : Option (List ℕ) → Option (Option ℕ)
 optional_port_of None = Some None
 optional_port_of (Some text) = option_map (λ port. Some port) (port_of text)
 
+-- a number that may be left out: where it is, there is none
+abbrev pub optional_number_of : Option (List ℕ) → Option (Option ℕ)
+optional_number_of None = Some None
+optional_number_of (Some text) = option_map (λ n. Some n) (decimal_of text)
+
 -- the replica that a UUID names, in any of its text forms but nil
 abbrev pub replica_of : List ℕ → Option ℕ
 replica_of text = option_and_then (λ bytes. above_zero (from_be_bytes w128 bytes)) (parsed text)
 
--- the form of an export: that of this name, and the text alone where none is named
-abbrev pub form_of : Option (List ℕ) → Option Form
-form_of None = Some Text
-form_of (Some name) = form_named name
+-- the form of an export, with breaks of the line in place of paragraphs or not: that of this name, and the text alone where none is named
+abbrev pub form_of : Option (List ℕ) → Bool → Option Form
+form_of None breaks = Some Text
+form_of (Some name) breaks = form_named name breaks

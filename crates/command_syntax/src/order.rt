@@ -3,6 +3,7 @@ use crate::ask_order::AskOrder;
 use crate::check_order::CheckOrder;
 use crate::dump_order::DumpOrder;
 use crate::export_order::ExportOrder;
+use crate::import_order::ImportOrder;
 use crate::list_order::ListOrder;
 use crate::serve_order::ServeOrder;
 use crate::store_order::StoreOrder;
@@ -20,6 +21,8 @@ pub enum Order<'a> {
     Check(CheckOrder<'a>),
     /// A document of a file for other programs, in the same way.
     Export(ExportOrder<'a>),
+    /// A page that is put into a document of a file.
+    Import(ImportOrder<'a>),
     /// What is done over a file and sockets.
     Serve(ServeOrder<'a>),
     /// What is asked of a daemon, and the answers.

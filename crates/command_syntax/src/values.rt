@@ -2,7 +2,8 @@
 ghost use Rattle.std.specs.Prelude.{◌≡◌, option_map};
 ghost use Rattle.std.specs.List.{list_all};
 ghost use Rattle.std.specs.Char.{is_ascii_digit};
-ghost use Rattle.command_syntax.specs.Values.{decimal_of, doc_of, form_of, port_of, optional_port_of, replica_of};
+ghost use Rattle.command_syntax.specs.Values.{decimal_of, doc_of, form_of, port_of, replica_of};
+ghost use Rattle.command_syntax.specs.Values.{optional_number_of, optional_port_of};
 
 use op_ids::ReplicaId;
 use span_export::Form;
@@ -39,13 +40,27 @@ pub fn optional_port(text: Option<&str>) -> Option<Option<u16>>
     }
 }
 
-/// The form of an export. Where none is named, it is the text alone.
-pub fn form(name: Option<&str>) -> Option<Form>
-    ensures { result ≡ form_of (option_map (λ name. name.now) name.entry) }
+/// A number that may be left out: where it is, there is none. In decimal digits, up to 2^32 - 1.
+pub fn optional_number(text: Option<&str>) -> Option<Option<u32>>
+    ensures { result ≡ optional_number_of (option_map (λ text. text.now) text.entry) }
+{
+    match text {
+        None => Some(None),
+        Some(text) => match number(text) {
+            Some(number) => Some(Some(number)),
+            None => None,
+        },
+    }
+}
+
+/// The form of an export, with breaks of the line in place of paragraphs or not. Where none is
+/// named, it is the text alone.
+pub fn form(name: Option<&str>, breaks: bool) -> Option<Form>
+    ensures { result ≡ form_of (option_map (λ name. name.now) name.entry) breaks }
 {
     match name {
         None => Some(Form::Text),
-        Some(name) => Form::named(name),
+        Some(name) => Form::named(name, breaks),
     }
 }
 

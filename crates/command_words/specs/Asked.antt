@@ -6,10 +6,12 @@ use Rattle.std.specs.Str.{bytes_eq}
 use Rattle.std.specs.Borrow.{Bor}
 use Rattle.clap.specs.Walk.{Row, first_of, all_of}
 use Rattle.clap.specs.Simple.{subcommand_of}
-use Rattle.command_syntax.specs.Values.{replica_of, doc_of, form_of, port_of, optional_port_of}
+use Rattle.command_syntax.specs.Values.{replica_of, doc_of, form_of, port_of, optional_number_of, optional_port_of}
 use Rattle.command_syntax.specs.Few.{as_few, texts_of}
 use Rattle.program_commands.specs.Program.{program}
 use Rattle.span_export.specs.declared.exporting.Form.{Form}
+use Rattle.page_reading.specs.declared.page_form.PageForm.{PageForm}
+use Rattle.page_reading.specs.Forms.{page_form_named}
 use Rattle.command_syntax.specs.declared.order.Order.{Order}
 use Rattle.command_syntax.specs.declared.order.Order.TheVariants as order
 use Rattle.command_syntax.specs.declared.store_order.StoreOrder.{StoreOrder}
@@ -18,7 +20,7 @@ use Rattle.command_syntax.specs.declared.web_order.WebOrder.{WebOrder}
 use Rattle.command_syntax.specs.declared.bad_port.BadPort.{BadPort}
 
 -- a session in memory, a new store of a replica, a session over a store, a document of a store, all its documents, what its opening finds,
--- one of them in a form for other programs, or a store served at a port for sessions and one for peers, with the port of a peer to join where one is
+-- one of them, as it is or as it was when it had so many operations, in a form for other programs, a page in a form for one of them, or a store served at a port for sessions and one for peers, with the port of a peer to join where one is
 -- named, a port for WebSockets and the origins that may open them where there is one, to its end or until the device failed, with its events
 -- written or not, and told once it listens or not; or lines for the daemon at a port
 pub data Asked : Type 0 where
@@ -28,7 +30,8 @@ pub data Asked : Type 0 where
   dump : List ℕ → ℕ → Asked
   list : List ℕ → Asked
   check : List ℕ → Asked
-  export : List ℕ → ℕ → Form → Asked
+  export : List ℕ → ℕ → Option ℕ → Form → Asked
+  import : List ℕ → ℕ → PageForm → Asked
   serve : List ℕ → ℕ → ℕ → Option ℕ → Option (ℕ × List (List ℕ)) → Bool → Bool → Bool → Asked
   ask : ℕ → List (List ℕ) → Asked
 
@@ -48,7 +51,8 @@ meant (order.Store order) = meant_of_store order
 meant (order.Dump order) = dump order.file.now order.doc
 meant (order.List order) = list order.file.now
 meant (order.Check order) = check order.file.now
-meant (order.Export order) = export order.file.now order.doc order.form
+meant (order.Export order) = export order.file.now order.doc order.at_rev order.form
+meant (order.Import order) = import order.file.now order.doc order.form
 meant (order.Serve order) =
     serve order.file.now order.sessions order.peers order.link (option_map meant_of_web order.web) order.ends_on_failure order.logs
     order.tells_ready
@@ -78,17 +82,6 @@ list_of rows = option_map list (first_of (codes "FILE") rows)
 abbrev pub check_of : List Row → Option Asked
 check_of rows = option_map check (first_of (codes "FILE") rows)
 
--- an `export` with the values of its arguments
-abbrev pub export_of : List Row → Option Asked
-export_of rows =
-    option_and_then (λ file. option_and_then (λ doc. option_map (export file doc) (form_of (first_of (codes "to") rows)))
-    (option_and_then doc_of (first_of (codes "DOC") rows)))
-    (first_of (codes "FILE") rows)
-
--- the port that an option or an argument names
-abbrev pub port_at : List ℕ → List Row → Option ℕ
-port_at option rows = option_and_then port_of (first_of option rows)
-
 -- the value that a given flag has
 abbrev pub is_true : Option (List ℕ) → Bool
 is_true None = false
@@ -97,6 +90,27 @@ is_true (Some text) = bytes_eq text (codes "true")
 -- a flag is given
 abbrev pub is_flag_given : List ℕ → List Row → Bool
 is_flag_given flag rows = is_true (first_of flag rows)
+
+-- an `export` with the values of its arguments
+abbrev pub export_of : List Row → Option Asked
+export_of rows =
+    option_and_then (λ file. option_and_then (λ doc. option_and_then (λ at_rev. option_map (export file doc at_rev)
+    (form_of (first_of (codes "to") rows) (is_flag_given (codes "breaks") rows)))
+    (optional_number_of (first_of (codes "at-rev") rows)))
+    (option_and_then doc_of (first_of (codes "DOC") rows)))
+    (first_of (codes "FILE") rows)
+
+-- an `import` with the values of its arguments
+abbrev pub import_of : List Row → Option Asked
+import_of rows =
+    option_and_then (λ file. option_and_then (λ doc. option_map (import file doc)
+    (option_and_then page_form_named (first_of (codes "from") rows)))
+    (option_and_then doc_of (first_of (codes "DOC") rows)))
+    (first_of (codes "FILE") rows)
+
+-- the port that an option or an argument names
+abbrev pub port_at : List ℕ → List Row → Option ℕ
+port_at option rows = option_and_then port_of (first_of option rows)
 
 -- where WebSockets come in, and the origins that may open them: none may be named without that port
 abbrev pub web_of : Option (List ℕ) → Option (List (List ℕ)) → Option (Option (ℕ × List (List ℕ)))
@@ -136,6 +150,7 @@ asked_of name rows =
     else if bytes_eq name (codes "list") then list_of rows
     else if bytes_eq name (codes "check") then check_of rows
     else if bytes_eq name (codes "export") then export_of rows
+    else if bytes_eq name (codes "import") then import_of rows
     else if bytes_eq name (codes "serve") then serve_of rows
     else if bytes_eq name (codes "ask") then ask_of rows
     else None

@@ -6,6 +6,7 @@ ghost use Rattle.command_words.specs.declared.order_fault.OrderFault.TheVariants
 ghost use Rattle.program_commands.specs.Program.{program};
 ghost use Rattle.command_words.specs.Asked.{texts, meant, asked, asked_of, init_of, edit_of, dump_of, serve_of};
 ghost use Rattle.command_words.specs.Asked.{list_of, check_of, export_of, ask_of, meant_of_web, web_at};
+ghost use Rattle.command_words.specs.Asked.{import_of};
 ghost use Rattle.command_words.specs.Asked.{told, bad_port_of, bad_port_at, is_flag_given};
 ghost use Rattle.command_words.specs.Faults.{RefusedBy, BreaksRule, TellsOf};
 
@@ -13,9 +14,10 @@ use crate::order_fault::OrderFault;
 use clap::ArgMatches;
 use clap::error::ErrorKind;
 use command_syntax::{
-    AskOrder, BadPort, CheckOrder, DumpOrder, ExportOrder, FewTexts, ListOrder, Order, ServeOrder,
-    StoreOrder, WebOrder, doc, form, optional_port, port, replica,
+    AskOrder, BadPort, CheckOrder, DumpOrder, ExportOrder, FewTexts, ImportOrder, ListOrder, Order,
+    ServeOrder, StoreOrder, WebOrder, doc, form, optional_number, optional_port, port, replica,
 };
+use page_reading::PageForm;
 use program_commands::commands;
 use std::alloc::Global;
 
@@ -68,6 +70,7 @@ fn command_order<'a>(name: &str, matches: &ArgMatches<'a>) -> Option<Order<'a>>
         "list" => list(matches),
         "check" => check(matches),
         "export" => export(matches),
+        "import" => import(matches),
         "serve" => serve(matches),
         "ask" => ask(matches),
         _ => None,
@@ -122,8 +125,24 @@ fn export<'a>(matches: &ArgMatches<'a>) -> Option<Order<'a>>
 {
     let file = value(matches, "FILE")?;
     let doc = doc(value(matches, "DOC")?)?;
-    let form = form(value(matches, "to"))?;
-    Some(Order::Export(ExportOrder { file, doc, form }))
+    let at_rev = optional_number(value(matches, "at-rev"))?;
+    let form = form(value(matches, "to"), is_given(matches, "breaks"))?;
+    Some(Order::Export(ExportOrder {
+        file,
+        doc,
+        at_rev,
+        form,
+    }))
+}
+
+/// The order of an `import`.
+fn import<'a>(matches: &ArgMatches<'a>) -> Option<Order<'a>>
+    ensures { option_map meant result ≡ import_of (rows_of (found_of matches.now)) }
+{
+    let file = value(matches, "FILE")?;
+    let doc = doc(value(matches, "DOC")?)?;
+    let form = PageForm::named(value(matches, "from")?)?;
+    Some(Order::Import(ImportOrder { file, doc, form }))
 }
 
 /// The order of a `serve`.

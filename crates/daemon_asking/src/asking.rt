@@ -1,4 +1,6 @@
 //! Asking line by line.
+ghost use Rattle.std.specs.Prelude.{OnOk};
+ghost use Rattle.daemon_asking.specs.Passing.{Passes};
 
 use crate::ask_fault::AskFault;
 use crate::passing::{Answered, pass_on};
@@ -18,7 +20,10 @@ pub fn ask_all<I: BufRead, D: Write, B: BufRead, W: Write>(
     daemon: &mut D,
     answers: &mut B,
     output: &mut W,
-) -> Result<bool, AskFault> {
+) -> Result<bool, AskFault>
+    ensures { OnOk result (Passes (B.remaining answers.old) (B.remaining answers.new)
+        (W.contents output.old) (W.contents output.new)) }
+{
     let mut are_ok = true;
     for _ in 0..u64::MAX {
         let line = next_line(alloc, requests)?;
@@ -64,14 +69,17 @@ fn pass_all<B: BufRead, W: Write>(
     alloc: Global,
     answers: &mut B,
     output: &mut W,
-) -> Result<bool, AskFault> {
-    let mut are_ok = true;
+) -> Result<bool, AskFault>
+    ensures { OnOk result (Passes (B.remaining answers.old) (B.remaining answers.new)
+        (W.contents output.old) (W.contents output.new)) }
+{
+    let mut all_ok = true;
     for _ in 0..u64::MAX {
         match pass_on(alloc, answers, output)? {
             Answered::Ok => {}
-            Answered::Refused => are_ok = false,
+            Answered::Refused => all_ok = false,
             Answered::Nothing => break,
         }
     }
-    Ok(are_ok)
+    Ok(all_ok)
 }

@@ -2,6 +2,7 @@
 use Rattle.std.proofs.Common.{◌≡◌, ℕ, ◌+◌, true, false, Option, List, [], ◌∷◌, ◌++◌, refl, sym, ◌∙◌, ap, arith}
 use Rattle.std.specs.Prelude.{◌==◌, ◌≢◌}
 use Rattle.std.proofs.lemmas.Bool.Decides.{nat_tests}
+use Rattle.list_counts.proofs.WriterLemmas.{first_writers-other}
 use Rattle.op_ids.specs.Clock.{advanced}
 use Rattle.op_model.specs.declared.edit.Edit.{Edit}
 use Rattle.op_model.specs.declared.op.Body.{Body}
@@ -42,6 +43,7 @@ document_stays d ops op other stands =
       characters = holds_other (cells_of d.characters) ops d.number op apart stands.characters;
       marks = kept_with d.marks ops (op ∷ []) d.number (other_marks_none op d.number other) stands.marks;
       rev = stands.rev ∙ ap counted (sym (other_rev ops d.number op apart));
+      writers = stands.writers ∙ sym (first_writers-other ops d.number op apart);
     }
 
 pub draft_stays : (d : Drafted) (ops : List Op) (op : Op) → op.doc ≢ d.number → IsDraftOf d ops → IsDraftOf d (ops ++ op ∷ [])
@@ -51,4 +53,5 @@ draft_stays d ops op other draft =
       characters = holds_other d.characters ops d.number op apart draft.characters;
       marks = gathered_with d.marks ops (op ∷ []) d.number (other_marks_none op d.number other) draft.marks;
       rev = draft.rev ∙ ap counted (sym (other_rev ops d.number op apart));
+      writers = draft.writers ∙ sym (first_writers-other ops d.number op apart);
     }

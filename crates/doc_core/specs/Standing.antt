@@ -2,6 +2,7 @@
 use Rattle.std.specs.Prelude.{◌≡◌, ℕ, Bool, true, false, not, List, [], ◌∷◌, ◌++◌, filter, min}
 use Rattle.std.specs.List.{list_all, list_any}
 use Rattle.op_ids.specs.Id.{Id, is_same}
+use Rattle.list_counts.specs.Documents.{first_writers}
 use Rattle.op_model.specs.declared.op.Op.{Op}
 use Rattle.op_model.specs.declared.op.Body.{Body}
 use Rattle.op_model.specs.declared.op.Body.TheVariants.{Insert, Remove, AddMark, RemoveMark}
@@ -13,23 +14,25 @@ use Rattle.char_sequence.specs.Chunks.{ChunkCells}
 use Rattle.char_sequence.specs.Content.{Holds, FitAfter}
 use Rattle.mark_anchors.specs.Keeping.{Kept, AreMarksOf}
 
--- a document as contracts see it: its number, its characters, its mark operations, and how many operations it counts
+-- a document as contracts see it: its number, its characters, its mark operations, how many operations it counts, and who wrote in it
 pub record Document : Type 0 where
   pub number : ℕ
   pub characters : ChunkCells
   pub marks : Kept
   pub rev : ℕ
+  pub writers : List ℕ
 
 -- a count of 64 bits stays at its greatest
 abbrev pub counted : ℕ → ℕ
 counted n = min n 18446744073709551615
 
--- the document is what these operations make of it, one after another: it holds their characters and their mark operations, and counts
--- those of its own
+-- the document is what these operations make of it, one after another: it holds their characters and their mark operations, counts
+-- those of its own, and knows who made them
 pub record StandsFor (d : Document) (ops : List Op) : Type 0 where
   pub characters : Holds d.characters ops d.number
   pub marks : AreMarksOf d.marks ops d.number
   pub rev : d.rev ≡ counted (rev ops d.number)
+  pub writers : d.writers ≡ first_writers ops d.number
 
 -- From standing for any operations that this one fits, the call leads to standing for them and it.
 abbrev pub Takes : Op → Document → Document → Type 0

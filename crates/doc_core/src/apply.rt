@@ -29,6 +29,7 @@ impl Doc {
     {
         take(&mut self.sequence, &mut self.anchors, op)?;
         self.rev = self.rev.saturating_add(1);
+        self.writers.put(op.id.replica());
         Ok(())
     }
 
@@ -47,6 +48,7 @@ impl Doc {
     {
         take_edit(&mut self.sequence, &mut self.anchors, edit)?;
         self.rev = self.rev.saturating_add(edit.as_slice().len() as u64);
+        self.writers.put_all(edit.as_slice());
         Ok(())
     }
 }

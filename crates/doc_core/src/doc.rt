@@ -3,6 +3,8 @@ ghost use Rattle.std.specs.Prelude.{◌≡◌, ◌≤◌, ◌<◌, ◌^◌, List
 ghost use Rattle.char_sequence.specs.Gaps.{IsGap};
 ghost use Rattle.fixed_numbers.specs.declared.limits.TheConstants.{MAX_LISTED};
 ghost use Rattle.op_model.specs.declared.op.Op.{Op};
+ghost use Rattle.list_counts.specs.Documents.{wrote};
+ghost use Rattle.op_model.specs.Causality.{clock_of};
 ghost use Rattle.op_model.specs.Made.{id_before, is_inside as is_inside_of, origin_of};
 ghost use Rattle.op_model.specs.Spans.{spans as spans_of};
 ghost use Rattle.op_model.specs.Text.{text as text_of, rev as rev_of, visible};
@@ -10,15 +12,16 @@ ghost use Rattle.doc_core.specs.Standing.{StandsFor};
 ghost use Rattle.span_flatten.specs.Listing.{listed};
 
 use char_sequence::{Gap, Sequence};
+use list_counts::Writers;
 use mark_anchors::Anchors;
-use op_ids::OpId;
+use op_ids::{OpId, ReplicaId};
 use op_model::{Change, Span, Text};
 use span_flatten::SpansError;
 use std::alloc::{AllocError, Global};
 use std::marker::Model;
 
 /// A document. It stands for the operations that were applied to it: its characters in the order
-/// of the text, tombstones too, its mark operations, and how many operations it has.
+/// of the text, tombstones too, its mark operations, and how many operations it has by whom.
 #[derive(Debug, Drop)]
 pub struct Doc {
     /// Its number.
@@ -27,6 +30,8 @@ pub struct Doc {
     pub(crate) anchors: Anchors,
     /// How many operations it has; 2^64 - 1 stands for more too.
     pub(crate) rev: u64,
+    /// Who wrote in it.
+    pub(crate) writers: Writers,
 }
 
 impl Model for Doc {
@@ -39,6 +44,7 @@ impl Model for Doc {
       characters = d.sequence;
       marks = d.anchors;
       rev = d.rev;
+      writers = d.writers;
     } };
 }
 
@@ -53,6 +59,7 @@ impl Doc {
             sequence: Sequence::new(alloc),
             anchors: Anchors::new(alloc),
             rev: 0,
+            writers: Writers::new(),
         }
     }
 
@@ -67,6 +74,7 @@ impl Doc {
             sequence: self.sequence.copy()?,
             anchors: self.anchors.copy()?,
             rev: self.rev,
+            writers: self.writers.copy(),
         })
     }
 
@@ -106,6 +114,15 @@ impl Doc {
             → rev_of ops self.now.number < 2 ^ 64 → result ≡ rev_of ops self.now.number }
     {
         self.rev
+    }
+
+    /// Whether a replica has an operation of the document, if the list has at most 16 replicas.
+    /// Takes no memory. At most 16 steps.
+    pub fn was_written_by(&self, replica: ReplicaId) -> bool
+        ensures { (ops : List Op) → StandsFor self.now ops
+            → length (clock_of ops) ≤ 16 → result ≡ wrote ops self.now.number replica }
+    {
+        self.writers.has(replica)
     }
 
     /// How many characters are visible. Takes no memory. Constant.

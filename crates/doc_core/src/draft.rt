@@ -11,6 +11,7 @@ ghost use Rattle.op_model.specs.Text.{rev as rev_of};
 
 use crate::doc::Doc;
 use char_sequence::{SequenceError, Weave};
+use list_counts::Writers;
 use mark_anchors::Gathering;
 use op_ids::OpId;
 use op_model::{Body, Op};
@@ -27,6 +28,8 @@ pub struct Draft {
     gathering: Gathering,
     /// How many operations it has; 2^64 - 1 stands for more too.
     rev: u64,
+    /// Who wrote in it.
+    writers: Writers,
 }
 
 impl Model for Draft {
@@ -39,6 +42,7 @@ impl Model for Draft {
       characters = d.weave;
       marks = d.gathering;
       rev = d.rev;
+      writers = d.writers;
     } };
 }
 
@@ -53,6 +57,7 @@ impl Draft {
             weave: Weave::new(alloc)?,
             gathering: Gathering::new(alloc),
             rev: 0,
+            writers: Writers::new(),
         })
     }
 
@@ -96,6 +101,7 @@ impl Draft {
     {
         take(&mut self.weave, &mut self.gathering, op)?;
         self.rev = self.rev.saturating_add(1);
+        self.writers.put(op.id.replica());
         Ok(())
     }
 
@@ -115,6 +121,7 @@ impl Draft {
             sequence,
             anchors,
             rev: self.rev,
+            writers: self.writers.copy(),
         })
     }
 }

@@ -12,7 +12,7 @@ use std::rt::Files;
 use store_orders::{Fault, Sentence};
 
 /// The exit status if an answer is a refusal, which was printed.
-const REFUSED: u8 = 1;
+pub const REFUSED: u8 = 1;
 
 /// Asks the daemon at a port the lines of an order, or else those of standard input, and prints its
 /// answers. Gives the exit status: 1 also where an answer is a refusal.

@@ -5,6 +5,7 @@ mod asking;
 mod error_way;
 mod greeting;
 mod held;
+mod importing;
 mod looking;
 mod origins;
 mod refusing;

@@ -1,7 +1,8 @@
 //! The program over its command line, files and standard streams.
 
-use crate::asking::ask;
+use crate::asking::{REFUSED, ask};
 use crate::held::hold_closed_streams;
+use crate::importing::import_into;
 use crate::looking::Purpose;
 use crate::refusing::{ended, of_file};
 use crate::serving::serve;
@@ -191,6 +192,10 @@ fn run_held<
             let end = export_from(rt, *order, output);
             tell(rt, end, order.file, Purpose::Reading, faults)
         }
+        Order::Import(order) => {
+            let end = import_into(rt, *order, output);
+            tell_import(rt, end, order.file, faults)
+        }
         Order::Serve(order) => {
             let end = serve(rt, *order, output, &*faults);
             ended(rt, end, faults)
@@ -264,6 +269,20 @@ fn run_on_file<R: Files<File = File> + Input + AllocGlobal, W: Write>(
     match FileDisk::open(rt, path) {
         Ok(disk) => run_on(rt, order, disk, output).end,
         Err(_) => Err(Fault::OpenFailed),
+    }
+}
+
+/// Tells how an import ended: with status 1 also where an edit was refused, which was printed.
+fn tell_import<R: Files<File = File> + AllocGlobal, F: Write + IsTerminal>(
+    rt: &R,
+    end: Result<bool, Fault>,
+    path: &str,
+    faults: &mut F,
+) -> u8 {
+    match end {
+        Ok(true) => 0,
+        Ok(false) => REFUSED,
+        Err(fault) => tell(rt, Err(fault), path, Purpose::Writing, faults),
     }
 }
 

@@ -4,7 +4,6 @@ use crate::refusing::{Refused, explanation};
 use command_syntax::ServeOrder;
 use disk_trait::Disk;
 use event_journal::{About, Cause, Event, Journal, Reason};
-use file_listing::documents;
 use hub_parts::Parts;
 use std::fs::File;
 use std::rt::Files;
@@ -21,19 +20,15 @@ pub fn tell_listening<R: Wait + AllocGlobal, D: Disk>(
     parts: &Parts<D>,
     journal: &Journal,
 ) {
-    let list = parts.locked.list();
-    let documents = match documents(rt.alloc(), &list) {
-        Ok(documents) => documents.len() as u64,
-        Err(_) => 0,
-    };
+    let room = parts.locked.room().file;
     let event = Event::Listening {
         file: order.file,
         replica: parts.locked.replica(),
         sessions: order.sessions,
         peers: order.peers,
         web: order.web.map(|web| web.port),
-        operations: list.len() as u64,
-        documents,
+        operations: room.operations,
+        documents: room.documents,
     };
     journal.tell(rt, &event);
 }

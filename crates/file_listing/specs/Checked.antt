@@ -8,7 +8,7 @@ use Rattle.root_reports.specs.declared.slot_report.SlotReport.{SlotReport}
 use Rattle.root_reports.specs.declared.stale.Stale.{Stale}
 use Rattle.root_reports.specs.declared.stale.Stale.TheVariants.{Older, Unfinished, Empty, Broken}
 use Rattle.file_listing.specs.Listing.{member}
-use Rattle.file_listing.specs.declared.listing_lines.FileRoom.{FileRoom}
+use Rattle.list_counts.specs.declared.room.FileRoom.{FileRoom}
 
 -- each format has its number
 abbrev pub number_of : Format → ℕ

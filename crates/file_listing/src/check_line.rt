@@ -4,9 +4,9 @@ ghost use Rattle.file_listing.specs.Listing.{Puts};
 ghost use Rattle.file_listing.specs.Checked.{name_of, number_of, word_of};
 ghost use Rattle.file_listing.specs.Checked.{said_check, said_live, said_owner, said_stale};
 
-use crate::listing_lines::FileRoom;
 use crate::putting::{put, put_member};
 use change_codec::Format;
+use list_counts::FileRoom;
 use op_ids::ReplicaId;
 use root_reports::{SlotReport, Stale};
 use std::alloc::AllocError;

@@ -1,6 +1,6 @@
 -- A stream in pages, of which some are read at a time.
 use Rattle.std.proofs.Common.{◌≡◌, ℕ, ◌+◌, ◌-◌, ◌*◌, ◌≤◌, Bool, true, false, ◌&&◌, min, List, [], ◌∷◌, ◌++◌, length, take, drop}
-use Rattle.std.proofs.Common.{refl, sym, ap, subst, ◌∙◌, inl, inr, append_assoc, arith, Ok, Err}
+use Rattle.std.proofs.Common.{refl, sym, ap, subst, ◌∙◌, inl, inr, append_assoc, arith, Result, Ok, Err, IfOk, IfErr}
 use Rattle.std.proofs.lemmas.Bool.{cases_Bool, cases_lt}
 use Rattle.std.proofs.lemmas.Bool.Decides.{nat_tests}
 use Rattle.std.proofs.lemmas.List.{append-nil, take-append-le, take-append-drop, take_all, drop_all}
@@ -43,6 +43,12 @@ take_least : (n m : ℕ) (bytes : List ℕ) → m ≡ min n (length bytes) → t
 take_least n m bytes least = elim (cases_lt n (length bytes)) [
   | inl less ↦ ap (λ (k : ℕ). take k bytes) (omega (arith, least, less))
   | inr more ↦ take_all m bytes (omega (arith, least, more)) ∙ sym (take_all n bytes more)
+]
+
+drop_least : (n m : ℕ) (bytes : List ℕ) → m ≡ min n (length bytes) → drop m bytes ≡ drop n bytes
+drop_least n m bytes least = elim (cases_lt n (length bytes)) [
+  | inl less ↦ ap (λ (k : ℕ). drop k bytes) (omega (arith, least, less))
+  | inr more ↦ drop_all m bytes (omega (arith, least, more)) ∙ sym (drop_all n bytes more)
 ]
 
 pub cut_parts : (k : ℕ) (part others rest : List ℕ) → part ≡ take k rest → others ≡ drop k rest → part ++ others ≡ rest
@@ -102,16 +108,29 @@ on_more begun it new all rest part others first second is within = record {
   left = omega (arith, second.left, first.left, is, within);
 }
 
--- the bytes that are fed of a part
-pub part_fed : (it : PartlyRead) (part bytes all taken : List ℕ) (m size : ℕ) → it.reader.bytes ≡ it.tail → bytes ≡ part → size ≡ length bytes
-    → m ≡ min it.left size → all ≡ bytes → taken ≡ take m all → it.reader.bytes ++ taken ≡ it.tail ++ take it.left part
-part_fed it part bytes all taken m size same is long least whole front =
-    let first : take m bytes ≡ take it.left bytes = take_least it.left m bytes (least ∙ ap (λ (k : ℕ). min it.left k) long) in
-    ap (λ (b : List ℕ). b ++ taken) same
-    ∙ ap (λ (b : List ℕ). it.tail ++ b) (front ∙ ap (take m) whole ∙ first ∙ ap (λ (b : List ℕ). take it.left b) is)
+-- the bytes of a part up to the stream's end
+pub part_taken : (n : ℕ) (part bytes all taken : List ℕ) (m size : ℕ) → bytes ≡ part → size ≡ length bytes → m ≡ min n size → all ≡ bytes → taken ≡ take m all
+    → taken ≡ take n part
+part_taken n part bytes all taken m size is long least whole front =
+    front ∙ ap (take m) whole ∙ take_least n m bytes (least ∙ ap (λ (k : ℕ). min n k) long) ∙ ap (λ (b : List ℕ). take n b) is
+
+-- and those that stand in the rest of it
+pub part_rest : (n : ℕ) (part bytes all rest : List ℕ) (m size : ℕ) → bytes ≡ part → size ≡ length bytes → m ≡ min n size → all ≡ bytes → rest ≡ drop m all
+    → rest ≡ drop n part
+part_rest n part bytes all rest m size is long least whole back =
+    back ∙ ap (drop m) whole ∙ drop_least n m bytes (least ∙ ap (λ (k : ℕ). min n k) long) ∙ ap (λ (b : List ℕ). drop n b) is
+
+-- a part is taken if its bytes up to the stream's end are
+pub takes_part : (r : Result PartlyRead OpenError) (it : PartlyRead) (part taken rest : List ℕ) → taken ≡ take it.left part → rest ≡ drop it.left part
+    → is_zero rest ≡ true → IfOk r (λ new. new.tail ≡ it.tail ++ taken) → IfOk r (TakesPart it part)
+takes_part (Ok new) it part taken rest is behind zeros more = record {
+  bytes = more ∙ ap (λ (b : List ℕ). it.tail ++ b) is;
+  zeros = sym (ap is_zero behind) ∙ zeros;
+}
+takes_part (Err e) it part taken rest is behind zeros more = tt
 
 -- why the bytes of a part aren't fed is why the part isn't taken
-pub feed_is_part : (e : OpenError) (it : PartlyRead) (part bytes : List ℕ) → bytes ≡ it.tail ++ take it.left part
+feed_is_part : (e : OpenError) (it : PartlyRead) (part bytes : List ℕ) → bytes ≡ it.tail ++ take it.left part
     → IsFeedFault e it.reader.format bytes it.reader.count → IsPartFault e it part
 feed_is_part Memory it part bytes is fault = tt
 feed_is_part BadStream it part bytes is never = inr (subst (λ (b : List ℕ). NeverHas it.reader.format b it.reader.count) is never)
@@ -121,6 +140,11 @@ feed_is_part BadTable it part bytes is fault = absurd fault
 feed_is_part TooLong it part bytes is fault = absurd fault
 feed_is_part ReadFailed it part bytes is fault = absurd fault
 feed_is_part SyncFailed it part bytes is fault = absurd fault
+
+pub faults_part : (r : Result PartlyRead OpenError) (it : PartlyRead) (part taken : List ℕ) → taken ≡ take it.left part
+    → IfErr r (λ e. IsFeedFault e it.reader.format (it.tail ++ taken) it.reader.count) → IfErr r (λ e. IsPartFault e it part)
+faults_part (Ok new) it part taken is fault = tt
+faults_part (Err e) it part taken is fault = feed_is_part e it part (it.tail ++ taken) (ap (λ (b : List ℕ). it.tail ++ b) is) fault
 
 -- all of them were
 pub reads_all : (n : ℕ) (ps : List (List ℕ)) (rest bytes : List ℕ) (left : ℕ) → are_whole ps ≡ true → rest ≡ [] → Reads n (joined ps) rest bytes left

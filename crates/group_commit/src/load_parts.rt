@@ -1,11 +1,11 @@
 //! The stream in data pages, some pages at a time.
-ghost use Rattle.std.specs.Prelude.{◌≡◌, ◌*◌, true, length, IfOk, IfErr, Ok};
+ghost use Rattle.std.specs.Prelude.{◌≡◌, ◌*◌, ◌≤◌, ◌++◌, true, length, IfOk, IfErr, Ok};
 ghost use Rattle.fixed_numbers.specs.declared.sizes.TheConstants.{PAGE_SIZE};
 ghost use Rattle.page_file.specs.Pages.{pages, are_whole, joined};
 ghost use Rattle.group_commit.specs.Loading.{failed_in, stream_of};
 ghost use Rattle.group_commit.specs.Opening.{IsLookedAt};
 ghost use Rattle.group_commit.specs.Parts.{IsUnread, IsPartly, IsPartFault, IsReadOn};
-ghost use Rattle.group_commit.specs.Parts.{NamesReadFault, TakesPart};
+ghost use Rattle.group_commit.specs.Parts.{IsFeedFault, NamesReadFault, TakesPart};
 
 use crate::load_ops::feed;
 use crate::open_fault::OpenError;
@@ -29,6 +29,26 @@ pub(crate) struct PartlyRead {
     pub left: u64,
 }
 
+impl PartlyRead {
+    /// The stream with its next bytes. 46 where no bytes behind these make it a stream of as many
+    /// operations as there have to be, 1 when out of memory.
+    fn and(self, bytes: &[u8]) -> Result<PartlyRead, OpenError>
+        requires partly { IsPartly self }
+        requires left { length bytes.now ≤ self.left }
+        ensures on { IfOk result (IsReadOn self (length bytes.now)) }
+        ensures more { IfOk result (λ it. it.tail ≡ self.tail ++ bytes.now) }
+        ensures fault { IfErr result (λ e. IsFeedFault e self.reader.format
+            (self.tail ++ bytes.now) self.reader.count) }
+    {
+        let PartlyRead { reader, tail, left } = self;
+        Ok(PartlyRead {
+            tail: tail.and(bytes)?,
+            reader: feed(reader, bytes)?,
+            left: left - bytes.len() as u64,
+        })
+    }
+}
+
 /// A stream with the bytes of its next pages, up to its end. 46 where what stands behind that isn't
 /// zero, or no bytes behind these make it a stream of as many operations as there have to be; 50
 /// where a read failed, 1 when out of memory.
@@ -48,19 +68,12 @@ fn read_part<D: Disk>(
     ensures looks { IsLookedAt D.DiskFacts (failed_in result) 0 disk.old disk.new }
 {
     let bytes = read_pages(alloc, disk, numbers)?;
-    let PartlyRead { reader, tail, left } = it;
-    let len = left.min(bytes.len() as u64);
+    let len = it.left.min(bytes.len() as u64);
     let (stream, rest) = bytes.split_at(len as usize);
     if !is_zero(rest) {
         return Err(OpenError::BadStream);
     }
-    let tail = tail.and(stream)?;
-    let reader = feed(reader, stream)?;
-    Ok(PartlyRead {
-        reader,
-        tail,
-        left: left - len,
-    })
+    it.and(stream)
 }
 
 /// A stream with the bytes of all its pages, of which none are read so far. They are read in parts

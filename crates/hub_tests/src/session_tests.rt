@@ -31,7 +31,9 @@ impl Desk for Counter {
             | Command::Places { .. }
             | Command::Find { .. }
             | Command::Export { .. } => Answer::Done,
-            Command::Status | Command::Peers => Answer::Edited { rev: self.asked },
+            Command::Status | Command::Peers | Command::Documents | Command::Room => {
+                Answer::Edited { rev: self.asked }
+            }
             Command::Stop => Answer::Stopped,
         }
     }

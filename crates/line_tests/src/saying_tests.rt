@@ -1,7 +1,7 @@
 //! How answers are said, in tests; and long ones.
+use list_counts::PeerCounts;
 use op_ids::ReplicaId;
 use op_model::{CommentIds, Marks, Span, Text, Url};
-use peer_counts::PeerCounts;
 use session_lines::{Answer, PeerList, SpanList, say};
 use std::alloc::{AllocError, Global};
 use std::process::Abort;

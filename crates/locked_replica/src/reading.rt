@@ -1,5 +1,6 @@
 //! What a hub tells of itself.
 ghost use Rattle.std.specs.Prelude.{◌≡◌, IfOk, IfSome, is_some};
+ghost use Rattle.list_counts.specs.Documents.{all_counted, held_room};
 ghost use Rattle.op_model.specs.Causality.{clock_of};
 ghost use Rattle.op_model.specs.Machine.{known_ticket};
 ghost use Rattle.op_model.specs.Spans.{spans as spans_of};
@@ -12,6 +13,7 @@ ghost use Rattle.replica_core.specs.RefusedAt.{refused_at as refused_at_of};
 
 use crate::hub::Hub;
 use disk_trait::Disk;
+use list_counts::{DocumentCounts, Room};
 use op_ids::{Clock, ReplicaId};
 use op_model::{Action, ChangeStep, Lasting, Neighbour, Span, Text};
 use placed_edits::PlacedAction;
@@ -93,6 +95,21 @@ impl<D: Disk> Hub<D> {
         ensures { result ≡ rev_of self.now.replica.list doc }
     {
         self.locked.rev(doc)
+    }
+
+    /// How much there is of what there is a limit to, unsettled operations included. Constant.
+    pub fn room(&self) -> Room
+        ensures { result ≡ held_room self.now.replica }
+    {
+        self.locked.room()
+    }
+
+    /// What is counted of each document that has operations, unsettled ones included, in rising
+    /// order of their numbers. An error is out of memory (1). Costs what `Replica::documents` does.
+    pub fn documents(&self) -> Result<Vec<DocumentCounts>, AllocError>
+        ensures { IfOk result (λ counts. counts.items ≡ all_counted self.now.replica.list) }
+    {
+        self.locked.documents()
     }
 
     /// The text of a document, unsettled operations included. An error is out of memory (1). Costs

@@ -34,10 +34,22 @@ check_app = with_rule (new_app (codes "check")) (needed (codes "FILE"))
 abbrev pub form_option : Rule
 form_option = record (new_rule (codes "to")) { long = Some (codes "to"); value_names = 1 }
 
--- `export FILE DOC [--to FORM]`
-abbrev pub export_app : App
-export_app =
-    with_rule (with_rule (with_rule (new_app (codes "export")) (needed (codes "FILE"))) (needed (codes "DOC"))) form_option
+-- an option with the value REV
+abbrev pub rev_option : Rule
+rev_option = record (new_rule (codes "at-rev")) { long = Some (codes "at-rev"); value_names = 1 }
+
+-- the option with the value FORM of a page that is read
+abbrev pub from_option : Rule
+from_option = record (new_rule (codes "from")) { long = Some (codes "from"); value_names = 1 }
+
+-- the same, which has to be given
+abbrev pub needed_from : Rule
+needed_from = record from_option { required = true }
+
+-- `import FILE DOC --from FORM`
+abbrev pub import_app : App
+import_app =
+    with_rule (with_rule (with_rule (new_app (codes "import")) (needed (codes "FILE"))) (needed (codes "DOC"))) needed_from
 
 -- an option with the value PORT
 abbrev pub port_option : List ℕ → Rule
@@ -50,6 +62,15 @@ needed_port name = record (port_option name) { required = true }
 -- an option without a value
 abbrev pub flag_option : List ℕ → Rule
 flag_option name = record (new_rule name) { long = Some name; action = Some SetTrue }
+
+-- `export FILE DOC [--to FORM] [--at-rev REV] [--breaks]`
+abbrev pub export_app : App
+export_app =
+    with_rule
+    (with_rule
+    (with_rule (with_rule (with_rule (new_app (codes "export")) (needed (codes "FILE"))) (needed (codes "DOC"))) form_option)
+    rev_option)
+    (flag_option (codes "breaks"))
 
 -- an option with the value ORIGIN that may be given again
 abbrev pub origin_option : Rule
@@ -92,6 +113,6 @@ bare_program = on_top versioned (new_app (codes "peritext"))
 -- all commands of the program
 abbrev pub program : App
 program =
-    with_subcommand (with_subcommand (with_subcommand (with_subcommand (with_subcommand
+    with_subcommand (with_subcommand (with_subcommand (with_subcommand (with_subcommand (with_subcommand
     (with_subcommand (with_subcommand (with_subcommand bare_program init_app.top) edit_app.top) dump_app.top)
-    list_app.top) check_app.top) export_app.top) serve_app.top) ask_app.top
+    list_app.top) check_app.top) export_app.top) import_app.top) serve_app.top) ask_app.top

@@ -6,11 +6,12 @@ ghost use Rattle.clap.specs.declared.builder.command.Command.TheViews.{out-Comma
 ghost use Rattle.program_commands.specs.Program.{init_app, edit_app, dump_app, serve_app, port_option, program};
 ghost use Rattle.program_commands.specs.Program.{flag_option, list_app, export_app, form_option, origin_option};
 ghost use Rattle.program_commands.specs.Program.{check_app, ask_app, line_rule};
+ghost use Rattle.program_commands.specs.Program.{import_app, from_option, rev_option};
 ghost use Rattle.program_commands.specs.Program.{needed as needed_rule};
 
 use crate::examples::{
     ASK_EXAMPLES, CHECK_EXAMPLES, DUMP_EXAMPLES, EDIT_EXAMPLES, EXAMPLES, EXPORT_EXAMPLES,
-    INIT_EXAMPLES, LIST_EXAMPLES, SERVE_EXAMPLES,
+    IMPORT_EXAMPLES, INIT_EXAMPLES, LIST_EXAMPLES, SERVE_EXAMPLES,
 };
 use clap::{Arg, ArgAction, Command};
 use std::alloc::{AllocError, Global};
@@ -33,6 +34,7 @@ pub fn commands<'a>(alloc: Global) -> Result<Command<'a>, AllocError>
         .subcommand(list_command(alloc)?)?
         .subcommand(check_command(alloc)?)?
         .subcommand(export_command(alloc)?)?
+        .subcommand(import_command(alloc)?)?
         .subcommand(serve_command(alloc)?)?
         .subcommand(ask_command(alloc)?)?;
     Ok(all)
@@ -124,7 +126,7 @@ fn check_command<'a>(alloc: Global) -> Result<Command<'a>, AllocError>
     Ok(command)
 }
 
-/// `export FILE DOC [--to FORM]`.
+/// `export FILE DOC [--to FORM] [--at-rev REV] [--breaks]`.
 fn export_command<'a>(alloc: Global) -> Result<Command<'a>, AllocError>
     ensures app { IfOk result (λ command. app_of command ≡ export_app) }
     ensures local { IfOk result (λ command. (out-Command command).has_globals ≡ false) }
@@ -138,7 +140,27 @@ fn export_command<'a>(alloc: Global) -> Result<Command<'a>, AllocError>
     let command = bare
         .arg(needed(alloc, "FILE", "The store"))?
         .arg(needed(alloc, "DOC", "The number of the document"))?
-        .arg(form(alloc))?;
+        .arg(form(alloc))?
+        .arg(at_rev(alloc))?
+        .arg(flag(alloc, "breaks", "Breaks of the line in place of paragraphs"))?;
+    Ok(command)
+}
+
+/// `import FILE DOC --from FORM`.
+fn import_command<'a>(alloc: Global) -> Result<Command<'a>, AllocError>
+    ensures app { IfOk result (λ command. app_of command ≡ import_app) }
+    ensures local { IfOk result (λ command. (out-Command command).has_globals ≡ false) }
+{
+    let bare = described(
+        alloc,
+        "import",
+        "Puts text or Markdown in at the end of a document",
+        IMPORT_EXAMPLES,
+    );
+    let command = bare
+        .arg(needed(alloc, "FILE", "The store"))?
+        .arg(needed(alloc, "DOC", "The number of the document"))?
+        .arg(from(alloc).required(true))?;
     Ok(command)
 }
 
@@ -205,6 +227,28 @@ fn form<'a>(alloc: Global) -> Arg<'a>
         .long("to")
         .value_name("FORM")
         .help("text, markdown or html [default: text]")
+}
+
+/// The option with the value REV.
+fn at_rev<'a>(alloc: Global) -> Arg<'a>
+    ensures rule { rule_of result ≡ rev_option }
+    ensures local { result.global ≡ false }
+{
+    Arg::new(alloc, "at-rev")
+        .long("at-rev")
+        .value_name("REV")
+        .help("The document as it was with its first REV operations")
+}
+
+/// The option with the value FORM of a page that is read.
+fn from<'a>(alloc: Global) -> Arg<'a>
+    ensures rule { rule_of result ≡ from_option }
+    ensures local { result.global ≡ false }
+{
+    Arg::new(alloc, "from")
+        .long("from")
+        .value_name("FORM")
+        .help("markdown or text")
 }
 
 /// An option with the value PORT.

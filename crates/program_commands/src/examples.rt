@@ -67,14 +67,30 @@ Example:
 
 pub(crate) const EXPORT_EXAMPLES: &str = "\
 The form is text (the characters alone; this is the one if none is named), markdown (CommonMark) or
-html (a page). Comments are tags with their UUID. A link that could run a program, as one to
-'javascript:', is written as its text alone. The file is only read. No session can have it open
-meanwhile (54).
+html (a page). In the last two each line of the document is a paragraph, an empty one too, unless
+--breaks asks for breaks of the line. Comments are tags with their UUID. A link that could run a
+program, as one to 'javascript:', is written as its text alone. With --at-rev it is the document as
+it was with its first REV operations in this file (4 if it has fewer). The file is only read. No
+session can have it open meanwhile (54).
 
 Examples:
   peritext export notes 1
+  peritext export notes 1 --at-rev 250
   peritext export notes 1 --to markdown > notes.md
   peritext export notes 1 --to html > notes.html";
+
+pub(crate) const IMPORT_EXAMPLES: &str = "\
+Reads standard input, UTF-8, and puts it in at the end of the document, after a line feed where that
+shows something: as it stands with 'text', and with 'markdown' (CommonMark) its paragraphs, a line
+feed between two of them, with what is strong, emphasised or a link. Other structure becomes plain
+text: its lines tell how often that was so. Each edit has up to 1,024 changes, and is settled before
+the next. Prints a line, as {\"characters\":9,\"dropped\":{\"heading\":1},\"ok\":true}; or the
+answer of an edit that was refused, with status 1: what was settled before stays. Bytes that are no
+UTF-8 are refused (4). Nobody else can have the file open meanwhile (54).
+
+Examples:
+  peritext import notes 1 --from markdown < notes.md
+  peritext import notes 2 --from text < log.txt";
 
 pub(crate) const SERVE_EXAMPLES: &str = "\
 Sessions and peers come in on 127.0.0.1, at a port each: a number from 1 to 65535, in decimal

@@ -72,12 +72,19 @@ const LINKS: [(&str, Look); 3] = [
     ("g", Look::Linked("/h:i")),
 ];
 
-static EXPORTS: [Row; 7] = [
+/// A paragraph that ends with a space, an empty one, and two with a link over both.
+const PARAGRAPHS: [(&str, Look); 3] = [
+    ("a ", Look::Plain),
+    ("\n\n", Look::Strong),
+    ("b\nc", Look::Linked("d")),
+];
+
+static EXPORTS: [Row; 14] = [
     // Text is the characters alone.
     (
         Form::Text,
-        &[("a*b ", Look::Plain), ("ü<", Look::Both)],
-        "a*b ü<",
+        &[("a*b \n", Look::Plain), ("ü<", Look::Both)],
+        "a*b \nü<",
     ),
     // Emphasis has stars, and no white space at its ends.
     (
@@ -85,12 +92,40 @@ static EXPORTS: [Row; 7] = [
         &EMPHASIS,
         "The **quick** *fox*<span></span>***\\!***<span></span>es\n",
     ),
+    (
+        Form::MarkdownBreaks,
+        &EMPHASIS,
+        "The **quick** *fox*<span></span>***\\!***<span></span>es\n",
+    ),
     // What means something is escaped.
     (
         Form::Markdown,
         &ESCAPED,
+        "\\# a\\_b\n\n&#32;1. \\<c\\>\n\n2\\. \\& \\\\\n",
+    ),
+    (
+        Form::MarkdownBreaks,
+        &ESCAPED,
         "\\# a\\_b\\\n&#32;1. \\<c\\>\\\n2\\. \\& \\\\\n",
     ),
+    // Each line is a paragraph, an empty one too.
+    (
+        Form::Markdown,
+        &PARAGRAPHS,
+        "a <span></span>\n\n<!-- -->\n\n[b](<d>)\n\n[c](<d>)\n",
+    ),
+    (
+        Form::Html,
+        &PARAGRAPHS,
+        "<!doctype html><meta charset=\"utf-8\"><div style=\"white-space: pre-wrap\"><p>a \n</p><p>\n</p><p><a href=\"d\">b</a>\n</p><p><a href=\"d\">c</a></p></div>\n",
+    ),
+    (
+        Form::HtmlBreaks,
+        &PARAGRAPHS,
+        "<!doctype html><meta charset=\"utf-8\"><div style=\"white-space: pre-wrap\">a <strong>\n\n</strong><a href=\"d\">b\nc</a></div>\n",
+    ),
+    (Form::Markdown, &[], "<!-- -->\n"),
+    (Form::MarkdownBreaks, &[], "\n"),
     // A script is no link.
     (
         Form::Markdown,
@@ -100,7 +135,7 @@ static EXPORTS: [Row; 7] = [
     (
         Form::Html,
         &LINKS,
-        "<!doctype html><meta charset=\"utf-8\"><div style=\"white-space: pre-wrap\"><a href=\"https://b.c/&lt;d&gt;\">a</a>e<a href=\"/h:i\">g</a></div>\n",
+        "<!doctype html><meta charset=\"utf-8\"><div style=\"white-space: pre-wrap\"><p><a href=\"https://b.c/&lt;d&gt;\">a</a>e<a href=\"/h:i\">g</a></p></div>\n",
     ),
     // A comment is a tag.
     (
@@ -111,7 +146,7 @@ static EXPORTS: [Row; 7] = [
     (
         Form::Html,
         &[("a", Look::Commented)],
-        "<!doctype html><meta charset=\"utf-8\"><div style=\"white-space: pre-wrap\"><span data-comment=\"5a5a5a5a-5a5a-5a5a-5a5a-5a5a5a5a5a5a\"><em>a</em></span></div>\n",
+        "<!doctype html><meta charset=\"utf-8\"><div style=\"white-space: pre-wrap\"><p><span data-comment=\"5a5a5a5a-5a5a-5a5a-5a5a-5a5a5a5a5a5a\"><em>a</em></span></p></div>\n",
     ),
 ];
 
@@ -129,8 +164,12 @@ fn spans_are_exported_to_the_byte(rt: HostRuntime) -> Result<(), Fail> {
 
 #[test]
 fn a_form_has_its_name(rt: HostRuntime) {
-    assert!(rt; Form::named("text") == Some(Form::Text));
-    assert!(rt; Form::named("markdown") == Some(Form::Markdown));
-    assert!(rt; Form::named("html") == Some(Form::Html));
-    assert!(rt; Form::named("HTML") == None);
+    for breaks in [false, true] {
+        assert!(rt; Form::named("text", breaks) == Some(Form::Text));
+        assert!(rt; Form::named("HTML", breaks) == None);
+    }
+    assert!(rt; Form::named("markdown", false) == Some(Form::Markdown));
+    assert!(rt; Form::named("markdown", true) == Some(Form::MarkdownBreaks));
+    assert!(rt; Form::named("html", false) == Some(Form::Html));
+    assert!(rt; Form::named("html", true) == Some(Form::HtmlBreaks));
 }

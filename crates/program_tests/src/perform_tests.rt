@@ -1,8 +1,9 @@
 //! Orders over disks in memory.
-use crate::test_runs::What::{Dump, Order};
+use crate::test_runs::What::{Dump, Import, Order, Past};
 use crate::test_runs::{EDIT, Session, fresh, made, replica, sessions, turn, turns};
 use command_syntax::StoreOrder;
 use disk_trait::Disk;
+use page_reading::PageForm;
 use std::test::Fail;
 use store_orders::{Fault, Place, Sentence, explain};
 
@@ -15,7 +16,7 @@ fn without_a_file_a_new_store_is_edited(rt: HostRuntime) -> Result<(), Fail> {
     Ok(())
 }
 
-static SESSIONS: [Session; 8] = [
+static SESSIONS: [Session; 9] = [
     (
         "a fresh store is empty",
         "{\"op\":\"text\",\"doc\":9}\n{\"op\":\"status\"}\n",
@@ -33,8 +34,13 @@ static SESSIONS: [Session; 8] = [
     ),
     (
         "a text is found, and a document exported",
-        "{\"op\":\"insert\",\"doc\":1,\"at\":0,\"text\":\"aaba\"}\n{\"op\":\"find\",\"doc\":1,\"text\":\"a\",\"from\":1}\n{\"op\":\"find\",\"doc\":1,\"text\":\"aab\"}\n{\"op\":\"find\",\"doc\":1,\"text\":\"\"}\n{\"op\":\"mark\",\"doc\":1,\"from\":2,\"to\":4,\"kind\":\"em\"}\n{\"op\":\"export\",\"doc\":1,\"to\":\"markdown\"}\n{\"op\":\"export\",\"doc\":1,\"to\":\"pdf\"}\n",
-        "{\"ok\":true,\"rev\":4}\n{\"ok\":true,\"places\":[1,3],\"rev\":4}\n{\"ok\":true,\"places\":[0],\"rev\":4}\n{\"code\":4,\"error\":\"field\",\"ok\":false}\n{\"ok\":true,\"rev\":5}\n{\"ok\":true,\"rev\":5,\"text\":\"aa*ba*\\n\"}\n{\"code\":4,\"error\":\"field\",\"ok\":false}\n",
+        "{\"op\":\"insert\",\"doc\":1,\"at\":0,\"text\":\"aaba\"}\n{\"op\":\"find\",\"doc\":1,\"text\":\"a\",\"from\":1}\n{\"op\":\"find\",\"doc\":1,\"text\":\"aab\"}\n{\"op\":\"find\",\"doc\":1,\"text\":\"\"}\n{\"op\":\"mark\",\"doc\":1,\"from\":2,\"to\":4,\"kind\":\"em\"}\n{\"op\":\"export\",\"doc\":1,\"to\":\"markdown\"}\n{\"op\":\"export\",\"doc\":1,\"to\":\"pdf\"}\n{\"op\":\"insert\",\"doc\":1,\"at\":2,\"text\":\"\\n\"}\n{\"op\":\"export\",\"doc\":1,\"to\":\"markdown\",\"breaks\":false}\n{\"op\":\"export\",\"doc\":1,\"to\":\"markdown\",\"breaks\":true}\n{\"op\":\"export\",\"doc\":1,\"to\":\"markdown\",\"breaks\":1}\n",
+        "{\"ok\":true,\"rev\":4}\n{\"ok\":true,\"places\":[1,3],\"rev\":4}\n{\"ok\":true,\"places\":[0],\"rev\":4}\n{\"code\":4,\"error\":\"field\",\"ok\":false}\n{\"ok\":true,\"rev\":5}\n{\"ok\":true,\"rev\":5,\"text\":\"aa*ba*\\n\"}\n{\"code\":4,\"error\":\"field\",\"ok\":false}\n{\"ok\":true,\"rev\":6}\n{\"ok\":true,\"rev\":6,\"text\":\"aa\\n\\n*ba*\\n\"}\n{\"ok\":true,\"rev\":6,\"text\":\"aa\\\\\\n*ba*\\n\"}\n{\"code\":4,\"error\":\"field\",\"ok\":false}\n",
+    ),
+    (
+        "the documents and the room are told",
+        "{\"op\":\"insert\",\"doc\":1,\"at\":0,\"text\":\"ab\"}\n{\"op\":\"documents\"}\n{\"op\":\"room\"}\n",
+        "{\"ok\":true,\"rev\":2}\n{\"documents\":[{\"chars\":2,\"doc\":1,\"ops\":2,\"writers\":[\"00000000-0000-4000-8000-000000000001\"]}],\"ok\":true}\n{\"bytes\":126,\"bytes_limit\":1073741824,\"documents\":1,\"documents_limit\":1024,\"ok\":true,\"operations\":2,\"operations_limit\":16777216,\"replicas\":1,\"replicas_limit\":16,\"steps\":2,\"steps_limit\":1048576}\n",
     ),
     (
         "edits at places that last are made, or refused",
@@ -99,9 +105,34 @@ fn what_was_edited_is_there_after_opening_again(rt: HostRuntime) -> Result<(), F
                 "{\"ok\":true,\"rev\":2}\n{\"ok\":true,\"rev\":2,\"text\":\"ab\"}\n",
                 "",
             ),
+            (Past(1), 0, "a", ""),
+            (Past(3), 1, "", "peritext: 4 field\n"),
         ],
     );
     assert!(rt; disk.size() == Ok(24_576));
+    Ok(())
+}
+
+#[test]
+fn a_page_is_put_in_and_is_there_after_opening_again(rt: HostRuntime) -> Result<(), Fail> {
+    turns(
+        &rt,
+        made(&rt)?,
+        &[
+            (
+                Import(PageForm::Markdown, "# a\n\n*b* c"),
+                0,
+                "{\"characters\":5,\"dropped\":{\"heading\":1},\"ok\":true}\n",
+                "",
+            ),
+            (
+                Dump(1),
+                0,
+                "{\"ok\":true,\"rev\":6,\"text\":\"a\\nb c\"}\n{\"ok\":true,\"rev\":6,\"spans\":[{\"text\":\"a\\n\"},{\"em\":true,\"text\":\"b\"},{\"text\":\" c\"}]}\n",
+                "",
+            ),
+        ],
+    );
     Ok(())
 }
 

@@ -1,11 +1,15 @@
 //! Runs of orders over disks in memory, for tests.
-use command_syntax::StoreOrder;
+use command_syntax::{ImportOrder, StoreOrder};
 use disk_trait::{Disk, MemDisk};
 use op_ids::ReplicaId;
+use page_reading::PageForm;
+use span_export::Form;
 use std::alloc::{AllocError, Global};
 use std::process::Abort;
 use std::test::Fail;
-use store_orders::{Ended, Shown, perform, print, show, show_check, status};
+use store_orders::{
+    Ended, Imported, Shown, import, perform, print, show, show_check, show_past, status,
+};
 
 /// What a run leaves: its disk, its exit status, and what it wrote.
 #[derive(Drop)]
@@ -45,6 +49,25 @@ fn shown<D: Disk>(alloc: Global, it: Shown<D>) -> Ran<D> {
     }
 }
 
+/// A run that puts a page in at the end of document 1.
+fn imported<D: Disk>(alloc: Global, form: PageForm, disk: D, page: &str) -> Ran<D> {
+    let mut output = Vec::new(alloc);
+    let mut faults = Vec::new(alloc);
+    let order = ImportOrder {
+        file: "",
+        doc: 1,
+        form,
+    };
+    let Imported { disk, end } = import(alloc, order, disk, page.as_bytes(), &mut output);
+    let end = end.map(|_| ());
+    Ran {
+        disk,
+        status: status(alloc, end, &mut faults),
+        output,
+        faults,
+    }
+}
+
 pub fn replica() -> Result<ReplicaId, Fail> {
     let bytes = [0, 0, 0, 0, 0, 0, 0x40, 0, 0x80, 0, 0, 0, 0, 0, 0, 1];
     Ok(ReplicaId::read(bytes).ok_or("nil")?)
@@ -57,6 +80,10 @@ pub enum What<'a> {
     Order(StoreOrder<'a>, &'a str),
     /// A document is dumped.
     Dump(u32),
+    /// The text of document 1 as it was with so many operations is shown.
+    Past(u32),
+    /// A page is put in at the end of document 1.
+    Import(PageForm, &'a str),
     /// It is checked.
     Check,
 }
@@ -87,6 +114,8 @@ pub fn turn<D: Disk>(rt: &(impl Abort + AllocGlobal), disk: D, row: &Row<'_>) ->
     let ran = match what {
         What::Order(order, input) => run(rt.alloc(), order, disk, input),
         What::Dump(doc) => shown(rt.alloc(), show(rt.alloc(), disk, *doc)),
+        What::Past(rev) => shown(rt.alloc(), show_past(rt.alloc(), disk, 1, *rev, Form::Text)),
+        What::Import(form, page) => imported(rt.alloc(), *form, disk, page),
         What::Check => shown(rt.alloc(), show_check(rt.alloc(), disk)),
     };
     written(rt, ran, *status, output, faults)

@@ -42,7 +42,7 @@ cut_back ops k j op next here is = (
 )
 
 -- the document has one operation more with it, if it is its own
-rev_back : (ops : List Op) (op : Op) (doc : ℕ) → rev (ops ++ op ∷ []) doc ≡ rev ops doc + cond (op.doc == doc) 1 0
+pub rev_back : (ops : List Op) (op : Op) (doc : ℕ) → rev (ops ++ op ∷ []) doc ≡ rev ops doc + cond (op.doc == doc) 1 0
 rev_back ops op doc =
     sum_by-append (λ (o : Op). cond (o.doc == doc) 1 0) ops (op ∷ [])
     ∙ ap (λ n. rev ops doc + n) (sum_by-cons (λ (o : Op). cond (o.doc == doc) 1 0) op [] ∙ add-zero (cond (op.doc == doc) 1 0))
@@ -161,7 +161,7 @@ of_head ops k h op here is_h is =
     let same : found.0 ≡ op = found.1 ∙ (get_or_default ops k found.0 op here ∙ sym is) in
     ap (λ (x : OpHead). x.doc) found.2 ∙ ap (λ (x : Op). x.doc) same
 
-differs : (a b : ℕ) → (a ≡ b → ⊥) → (a == b) ≡ false
+pub differs : (a b : ℕ) → (a ≡ b → ⊥) → (a == b) ≡ false
 differs a b other = grind (arith, nat_tests)
 
 -- one back, by its head

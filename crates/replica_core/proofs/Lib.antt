@@ -30,3 +30,5 @@ pub mod EditedLemmas
 pub mod WaitingLemmas
 pub mod RepeatLemmas
 pub mod CameLemmas
+pub mod DocCountLemmas
+pub mod PastLemmas

@@ -18,3 +18,5 @@ pub mod Places
 pub mod Repeats
 pub mod Came
 pub mod Changed
+pub mod Past
+pub mod Drafted

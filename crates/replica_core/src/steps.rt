@@ -54,6 +54,13 @@ impl Steps {
         self.count += 1;
     }
 
+    /// How many. Constant.
+    pub(crate) fn count(&self) -> usize
+        ensures { result ≡ length self.now }
+    {
+        self.count
+    }
+
     /// Whether there are places for a step and for two settlements behind it.
     pub(crate) fn has_places(&self) -> bool
         ensures { result ≡ nat_le (length self.now + 3) MAX_STEPS }

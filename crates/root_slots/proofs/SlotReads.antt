@@ -25,6 +25,12 @@ body_first file slot below = part_first file (4096 * slot + 8) 4088 (8192 - (409
 live_is : (file : List ℕ) → 8192 ≤ length file → live file ≡ picked (gate 0 file) (gate 1 file) (version_of (body 0 file)) (version_of (body 1 file))
 live_is file whole = rw (le-ltb _ _ whole) refl
 
+-- of their gates and of the versions that their bodies say
+pub live_of : (file b0 b1 : List ℕ) (g0 g1 v0 v1 : ℕ) → 8192 ≤ length file → g0 ≡ gate 0 file → g1 ≡ gate 1 file → b0 ≡ body 0 file → b1 ≡ body 1 file
+    → v0 ≡ version_of b0 → v1 ≡ version_of b1 → live file ≡ picked g0 g1 v0 v1
+live_of file b0 b1 g0 g1 v0 v1 whole gate0 gate1 body0 body1 version0 version1 =
+    rw (live_is file whole, sym gate0, sym gate1, sym body0, sym body1, sym version0, sym version1) refl
+
 size_first : (file : List ℕ) (n : ℕ) → n ≤ length file → length (part file 0 n) ≡ n
 size_first file n whole = length-take-le n file whole
 

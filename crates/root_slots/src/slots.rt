@@ -3,7 +3,7 @@ ghost use Rattle.std.specs.Prelude.{◌≡◌, ◌⊎◌, ◌-◌, ◌<◌, ◌=
 ghost use Rattle.fixed_numbers.specs.declared.sizes.TheConstants.{SLOTS_SIZE};
 ghost use Rattle.root_slots.specs.Body.{IsRoot, Spells, body_bytes};
 ghost use Rattle.root_slots.specs.Root.{version_of};
-ghost use Rattle.root_slots.specs.Slots.{gate, body, greater, live};
+ghost use Rattle.root_slots.specs.Slots.{gate, body, greater, picked, live};
 ghost use Rattle.root_slots.specs.Live.{IsLive, rooted, live_root};
 ghost use Rattle.root_slots.specs.Faults.{NamesRootFault};
 ghost use Rattle.root_slots.specs.declared.error.RootsError.TheVariants.{Memory, NoRoot, BadRoot};
@@ -21,13 +21,13 @@ pub struct Live {
     pub root: RootBody,
 }
 
-/// Whether a slot is open, of the bytes of both.
-fn is_open(slots: &[u8], slot: u64) -> bool
+/// The gate of a slot, of the bytes of both: it is open where this is 1.
+fn gate_of(slots: &[u8], slot: u64) -> u8
     requires slot { slot < 2 }
     requires both { length slots.now ≡ SLOTS_SIZE }
-    ensures { result ≡ (gate slot slots.now == 1) }
+    ensures { result ≡ gate slot slots.now }
 {
-    slots[PAGE_SIZE * slot as usize] == 1
+    slots[PAGE_SIZE * slot as usize]
 }
 
 /// The body of a slot, of the bytes of both.
@@ -68,8 +68,24 @@ fn greater(version0: u64, version1: u64) -> Result<u64, RootsError>
     }
 }
 
-/// Which slot is live, of the bytes of both: the open one, of two the one with the greater version.
-/// 42 where none is open, and 43 where two are with equal versions.
+/// Which slot is live, of the gates and the versions of both: the open one, of two the one with the
+/// greater version. 42 where none is open, and 43 where two are with equal versions.
+fn picked(gate0: u8, gate1: u8, version0: u64, version1: u64) -> Result<u64, RootsError>
+    ensures slot { IfOk result (λ slot. picked gate0 gate1 version0 version1 ≡ Ok slot) }
+    ensures below { IfOk result (λ slot. slot < 2) }
+    ensures fault { IfErr result
+        (λ e. NamesRootFault e (picked gate0 gate1 version0 version1)) }
+    ensures refused { IfErr result (λ e. (e ≡ NoRoot) ⊎ (e ≡ BadRoot)) }
+{
+    match (gate0, gate1) {
+        (1, 1) => greater(version0, version1),
+        (1, _) => Ok(0),
+        (_, 1) => Ok(1),
+        _ => Err(RootsError::NoRoot),
+    }
+}
+
+/// The same, of the bytes of both slots.
 fn live_slot(slots: &[u8]) -> Result<u64, RootsError>
     requires { length slots.now ≡ SLOTS_SIZE }
     ensures slot { IfOk result (λ slot. live slots.now ≡ Ok slot) }
@@ -77,17 +93,12 @@ fn live_slot(slots: &[u8]) -> Result<u64, RootsError>
     ensures fault { IfErr result (λ e. NamesRootFault e (live slots.now)) }
     ensures refused { IfErr result (λ e. (e ≡ NoRoot) ⊎ (e ≡ BadRoot)) }
 {
-    let open0 = is_open(slots, 0);
-    let open1 = is_open(slots, 1);
-    if open0 && open1 {
-        greater(version_at(body_at(slots, 0)), version_at(body_at(slots, 1)))
-    } else if open0 {
-        Ok(0)
-    } else if open1 {
-        Ok(1)
-    } else {
-        Err(RootsError::NoRoot)
-    }
+    picked(
+        gate_of(slots, 0),
+        gate_of(slots, 1),
+        version_at(body_at(slots, 0)),
+        version_at(body_at(slots, 1)),
+    )
 }
 
 /// What a body says, or 43 where it is no root body; 1 when out of memory.
@@ -117,7 +128,7 @@ pub(crate) fn live_root(alloc: Global, slots: &[u8]) -> Result<Live, RootsError>
 {
     let slot = live_slot(slots)?;
     let root = root_of(alloc, body_at(slots, slot))?;
-    let stale_open = is_open(slots, 1 - slot);
+    let stale_open = gate_of(slots, 1 - slot) == 1;
     Ok(Live {
         slot,
         stale_open,

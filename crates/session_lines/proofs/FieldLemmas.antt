@@ -1,12 +1,13 @@
 -- What the tests of fields say of the definitions.
 use Rattle.std.proofs.Common.{◌≡◌, ◌↔◌, ℕ, zero, suc, ◌<◌, List, [], ◌∷◌, ◌++◌, map, Bool, true, false}
-use Rattle.std.proofs.Common.{true≢false, ◌||◌, ◌==◌, if◌then◌else◌, Option, Some, None, IsNone, IfSome}
+use Rattle.std.proofs.Common.{true≢false, ◌∙◌, length, IsSome, ◌||◌, ◌==◌, if◌then◌else◌, Option, Some, None, IsNone, IfSome}
 use Rattle.std.proofs.Common.{MatchOption, Err}
 use Rattle.std.proofs.Common.{refl, sym, ap, subst, arith, String, string_bytes, Bor}
 use Rattle.std.proofs.Math.Bridge.{le_prop}
 use Rattle.std.proofs.lemmas.List.Folds.{list_any-append}
 use Rattle.std.proofs.lemmas.Bool.Decides.{nat_tests}
 use Rattle.std.specs.Option.{ok_or}
+use Rattle.std.specs.Prelude.{nat_lt}
 use Rattle.std.specs.List.{list_any, list_all}
 use Rattle.std.specs.Map.{keys_of}
 use Rattle.std.specs.Str.{IsUtf8, is_utf8, bytes_eq}
@@ -17,7 +18,7 @@ use Rattle.serde_json.specs.declared.value.Value.{Value}
 use Rattle.serde_json.specs.Read.{read}
 use Rattle.serde_json.specs.View.{members_view}
 use Rattle.session_lines.specs.declared.refusal.Refusal.TheVariants.{Syntax, Field}
-use Rattle.session_lines.specs.Fields.{Reads, or_field, is_among, are_among, non_zero, not_nil}
+use Rattle.session_lines.specs.Fields.{Reads, some_characters, or_field, is_among, are_among, non_zero, not_nil}
 use Rattle.session_lines.specs.Requests.{or_syntax, reading}
 
 -- a value that is nowhere found isn't there
@@ -63,6 +64,20 @@ by_zero t n false is not_zero same = ap Some same
 pub is_not_nil : (o : Option ℕ) (n : ℕ) → (IsNone o ↔ (n ≡ 0)) → IfSome o (λ t. t ≡ n) → o ≡ not_nil n
 is_not_nil None n nil same = let e : n ≡ 0 = nil.0 refl in rw e refl
 is_not_nil (Some t) n nil same = by_zero t n (n == 0) refl (λ e. true≢false (nil.1 e)) same
+
+-- characters that are there exactly where there is at least one
+by_first : (text cs : List ℕ) (some : Bool) → nat_lt 0 (length cs) ≡ some → 0 < length cs → text ≡ cs → Some text ≡ (if some then Some cs else None)
+by_first text cs true is long same = ap Some same
+by_first text cs false is long same = absurd (true≢false (let yes : nat_lt 0 (length cs) ≡ true = grind (arith, nat_tests) in sym yes ∙ is))
+
+by_none : (cs : List ℕ) (some : Bool) → nat_lt 0 (length cs) ≡ some → (0 < length cs → ⊥) → None ≡ (if some then Some cs else None)
+by_none cs true is none = absurd (none (grind (arith, nat_tests)))
+by_none cs false is none = refl
+
+pub is_some_characters : (o : Option (List ℕ)) (cs : List ℕ) (n : ℕ) → n ≡ length cs → (IsSome o ↔ (0 < n)) → IfSome o (λ t. t ≡ cs) → o ≡ some_characters cs
+is_some_characters None cs n count some same =
+    by_none cs _ refl (λ long. true≢false (sym (some.1 (omega (arith, count, long)))))
+is_some_characters (Some text) cs n count some same = by_first text cs _ refl (omega (arith, count, some.0 refl)) same
 
 -- a name is among names that are lent
 among_lent : (name : List ℕ) (names : List (Bor (List ℕ)))

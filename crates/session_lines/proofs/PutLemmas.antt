@@ -1,6 +1,6 @@
 -- Bytes that are put one after the other.
 use Rattle.std.proofs.Common.{◌≡◌, ◌≢◌, ℕ, ◌+◌, ◌-◌, ◌≤◌, List, [], ◌∷◌, ◌++◌, length, take, Result, Ok, Err, IsErr}
-use Rattle.std.proofs.Common.{append_assoc, length-append, refl, sym, ap, ◌∙◌, arith, codes}
+use Rattle.std.proofs.Common.{append_assoc, length-append, refl, sym, ap, subst, ◌∙◌, arith, codes}
 use Rattle.std.proofs.Math.Seq.{take-append-add}
 use Rattle.std.specs.Prelude.{vec_capacity}
 use Rattle.session_lines.specs.Saying.{but_last, said_attributes}
@@ -8,8 +8,7 @@ use Rattle.std.proofs.lemmas.Bool.{false≢true}
 use Rattle.std.specs.Global.{Vec}
 use Rattle.session_lines.specs.Putting.{Puts}
 
--- bytes, and then others
-pub then_puts : {T E U : Type 0} {x : U} (r : Result T E) (old mid new : Vec ℕ) (first later : List ℕ)
+then_puts : {T E U : Type 0} {x : U} (r : Result T E) (old mid new : Vec ℕ) (first later : List ℕ)
     → Puts {E = E} (Ok x) old mid first → Puts r mid new later → Puts r old new (first ++ later)
 then_puts (Ok x) old mid new first later p q = record {
   ok = q.ok ∙ ap (λ l. l ++ later) p.ok ∙ append_assoc old.items first later;
@@ -22,11 +21,39 @@ then_puts (Err e) old mid new first later p q = record {
   capacity = omega (arith, p.capacity, q.capacity);
 }
 
--- if an error ends it, it doesn't matter which bytes were to be put
-pub puts_err : {T U E : Type 0} {e : E} (r : Result T E) (old new : Vec ℕ) (bytes other : List ℕ) → IsErr r
+puts_err : {T U E : Type 0} {e : E} (r : Result T E) (old new : Vec ℕ) (bytes other : List ℕ) → IsErr r
     → Puts {T = U} (Err e) old new bytes → Puts r old new other
 puts_err (Ok x) old new bytes other is p = absurd (false≢true is)
 puts_err (Err y) old new bytes other is p = record { ok = tt; err = p.err; capacity = p.capacity }
+
+puts_same : {T E : Type 0} (r : Result T E) (old new : Vec ℕ) (bytes other : List ℕ) → bytes ≡ other → Puts r old new bytes → Puts r old new other
+puts_same r old new bytes other same p = subst (λ (l : List ℕ). Puts r old new l) same p
+
+regrouped : (a b c d : List ℕ) → (a ++ (b ++ c)) ++ d ≡ a ++ (b ++ (c ++ d))
+regrouped a b c d = append_assoc a (b ++ c) d ∙ ap (λ l. a ++ l) (append_assoc b c d)
+
+-- bytes, and then others
+infixr 10 ◌>>◌
+pub ◌>>◌ : {T E U : Type 0} {x : U} {r : Result T E} {old mid new : Vec ℕ} {first later : List ℕ}
+    → Puts {E = E} (Ok x) old mid first → Puts r mid new later → Puts r old new (first ++ later)
+p >> q = then_puts _ _ _ _ _ _ p q
+
+-- a number between bytes, and then others
+pub then_after_number : {T E U : Type 0} {x : U} {r : Result T E} {old mid new : Vec ℕ} {later : List ℕ} (before number after : List ℕ)
+    → Puts {E = E} (Ok x) old mid (before ++ (number ++ after)) → Puts r mid new later → Puts r old new (before ++ (number ++ (after ++ later)))
+then_after_number before number after p q = puts_same _ _ _ _ _ (regrouped before number after _) (p >> q)
+
+-- two numbers, each after bytes, and then others
+pub then_after_part : {T E U : Type 0} {x : U} {r : Result T E} {old mid new : Vec ℕ} {later : List ℕ} (before number between limit : List ℕ)
+    → Puts {E = E} (Ok x) old mid (before ++ (number ++ (between ++ limit))) → Puts r mid new later
+    → Puts r old new (before ++ (number ++ (between ++ (limit ++ later))))
+then_after_part before number between limit p q =
+    puts_same _ _ _ _ _ (ap (λ l. before ++ (number ++ l)) (append_assoc between limit _)) (then_after_number before number (between ++ limit) p q)
+
+-- if an error ends it, it doesn't matter which bytes were to be put
+pub stops : {T U E : Type 0} {e : E} {r : Result T E} {old new : Vec ℕ} {bytes other : List ℕ} → IsErr r
+    → Puts {T = U} (Err e) old new bytes → Puts r old new other
+stops is p = puts_err _ _ _ _ _ is p
 
 -- the last byte goes again
 pub puts_but_last : {T E : Type 0} {x : T} (old mid new : Vec ℕ) (first later : List ℕ) → 1 ≤ length later

@@ -109,6 +109,8 @@ change_of verb.Status outer d = Err Field
 change_of verb.Find outer d = Err Field
 change_of verb.Export outer d = Err Field
 change_of verb.Peers outer d = Err Field
+change_of verb.Documents outer d = Err Field
+change_of verb.Room outer d = Err Field
 change_of verb.Stop outer d = Err Field
 
 -- the edit with this change, at these places

@@ -51,6 +51,8 @@ verb_named name =
     else if bytes_eq name (codes "export") then Some verb.Export
     else if bytes_eq name (codes "status") then Some verb.Status
     else if bytes_eq name (codes "peers") then Some verb.Peers
+    else if bytes_eq name (codes "documents") then Some verb.Documents
+    else if bytes_eq name (codes "room") then Some verb.Room
     else if bytes_eq name (codes "stop") then Some verb.Stop
     else None
 

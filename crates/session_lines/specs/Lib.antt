@@ -5,6 +5,7 @@ pub mod Putting
 pub mod Spots
 pub mod Edits
 pub mod Words
+pub mod Counting
 pub mod Reading
 pub mod Requests
 pub mod Watches

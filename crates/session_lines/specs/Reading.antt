@@ -1,7 +1,7 @@
 -- The requests that look for a text, or read a document in another form.
-use Rattle.std.specs.Prelude.{ℕ, nat_le, if◌then◌else◌, List, [], ◌∷◌, length, Option, Some, None, option_and_then, Result, Ok, codes}
+use Rattle.std.specs.Prelude.{ℕ, nat_le, Bool, false, if◌then◌else◌, List, [], ◌∷◌, length, Option, Some, None, option_and_then, Result, Ok, codes}
 use Rattle.serde_json.specs.Data.{Data}
-use Rattle.serde_json.specs.Find.{get}
+use Rattle.serde_json.specs.Find.{get, as_bool}
 use Rattle.fixed_numbers.specs.declared.limits.TheConstants.{MAX_EDIT}
 use Rattle.span_export.specs.Exported.{form_named}
 use Rattle.span_export.specs.declared.exporting.Form.{Form}
@@ -36,14 +36,25 @@ find_asked d =
     from_of d >>= λ from.
     Ok (command.Find doc text from)
 
+-- true or false, or false if nothing is said
+abbrev pub if_said : Option Data → Result Bool Refusal
+if_said None = Ok false
+if_said (Some d) = or_field (as_bool d)
+
+-- whether breaks of the line are asked for in place of paragraphs
+abbrev pub breaks_of : Data → Result Bool Refusal
+breaks_of d = if_said (get (codes "breaks") d)
+
 -- the form that a document is asked for in
 abbrev pub form_of : Data → Result Form Refusal
-form_of d = or_field (option_and_then form_named (text_at (codes "to") d))
+form_of d =
+    breaks_of d >>= λ breaks.
+    or_field (option_and_then (λ name. form_named name breaks) (text_at (codes "to") d))
 
 -- the request for a document as other programs read it
 abbrev pub export_asked : Data → Result Command Refusal
 export_asked d =
-    only (codes "op" ∷ codes "doc" ∷ codes "to" ∷ []) d >>= λ _.
+    only (codes "op" ∷ codes "doc" ∷ codes "to" ∷ codes "breaks" ∷ []) d >>= λ _.
     whole (codes "doc") 1 d >>= λ doc.
     form_of d >>= λ form.
     Ok (command.Export doc form)

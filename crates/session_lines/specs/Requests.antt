@@ -27,6 +27,10 @@ verb_of d = or_request (option_and_then verb_named (text_at (codes "op") d))
 abbrev pub doc_fields : List (List ℕ)
 doc_fields = codes "op" ∷ codes "doc" ∷ []
 
+-- a request that has no field but its name
+abbrev pub bare_asked : Command → Data → Result Command Refusal
+bare_asked command d = only (codes "op" ∷ []) d >>= λ _. Ok command
+
 -- the request for a text
 abbrev pub text_asked : Data → Result Command Refusal
 text_asked d = only doc_fields d >>= λ _. whole (codes "doc") 1 d >>= λ doc. Ok (command.Text doc)
@@ -70,9 +74,11 @@ command_of verb.Anchors d = anchors_asked d
 command_of verb.Places d = places_asked d
 command_of verb.Find d = find_asked d
 command_of verb.Export d = export_asked d
-command_of verb.Status d = only (codes "op" ∷ []) d >>= λ _. Ok command.Status
-command_of verb.Peers d = only (codes "op" ∷ []) d >>= λ _. Ok command.Peers
-command_of verb.Stop d = only (codes "op" ∷ []) d >>= λ _. Ok command.Stop
+command_of verb.Status d = bare_asked command.Status d
+command_of verb.Peers d = bare_asked command.Peers d
+command_of verb.Documents d = bare_asked command.Documents d
+command_of verb.Room d = bare_asked command.Room d
+command_of verb.Stop d = bare_asked command.Stop d
 
 -- what a JSON value asks for
 abbrev pub request_of : Data → Result Command Refusal

@@ -9,7 +9,7 @@ use Rattle.op_model.specs.declared.change_step.ChangeStep.TheVariants as change
 use Rattle.op_model.specs.declared.lasting.Lasting.{Lasting}
 use Rattle.op_model.specs.declared.mark.Marks.{Marks}
 use Rattle.op_model.specs.declared.span.Span.{Span}
-use Rattle.peer_counts.specs.declared.peer_counts.PeerCounts.{PeerCounts}
+use Rattle.list_counts.specs.declared.peer_counts.PeerCounts.{PeerCounts}
 use Rattle.session_lines.specs.declared.refusal.Refusal.{Refusal}
 use Rattle.session_lines.specs.declared.refusal.Refusal.TheVariants as refusal
 use Rattle.session_lines.specs.declared.answer.Answer.{Answer}
@@ -17,7 +17,8 @@ use Rattle.session_lines.specs.declared.answer.Answer.TheVariants as answer
 use Rattle.session_lines.specs.declared.answer.State.{State}
 use Rattle.session_lines.specs.declared.answer.State.TheVariants as state
 use Rattle.session_lines.specs.Anchors.{lasting_text}
-use Rattle.session_lines.specs.Words.{comma_after, quoted, said_replica}
+use Rattle.session_lines.specs.Counting.{said_counted, said_room}
+use Rattle.session_lines.specs.Words.{quoted, said_list, said_replica}
 
 -- the number of a refusal
 abbrev pub number_of : Refusal → ℕ
@@ -63,15 +64,10 @@ said_characters characters = quoted (encode_utf8_all characters)
 abbrev pub said_id : ℕ → List ℕ
 said_id id = quoted (hyphenated_text lower (to_be_bytes w128 id))
 
--- the names of comments, and the closing bracket
-abbrev pub said_ids : Bool → List ℕ → List ℕ
-said_ids later [] = codes "]"
-said_ids later (id ∷ ids) = comma_after later ++ (said_id id ++ said_ids true ids)
-
 -- the member of the comments, where there are some
 abbrev pub said_comments : List ℕ → List ℕ
 said_comments [] = []
-said_comments (id ∷ ids) = codes "\"comments\":[" ++ (said_ids false (id ∷ ids) ++ codes ",")
+said_comments (id ∷ ids) = codes "\"comments\":[" ++ (said_list said_id false (id ∷ ids) ++ codes ",")
 
 -- the member of a mark, where there is one
 abbrev pub said_if : Bool → List ℕ → List ℕ
@@ -93,29 +89,14 @@ said_marks m =
 abbrev pub said_span : Span → List ℕ
 said_span s = codes "{" ++ (said_marks s.marks ++ (codes "\"text\":" ++ (said_characters s.text ++ codes "}")))
 
--- spans, and the closing bracket
-abbrev pub said_spans : Bool → List Span → List ℕ
-said_spans later [] = codes "]"
-said_spans later (s ∷ ss) = comma_after later ++ (said_span s ++ said_spans true ss)
-
 -- a place that lasts as a JSON string: no character of it wants a backslash
 abbrev pub said_anchor : Lasting → List ℕ
 said_anchor place = codes "\"" ++ (lasting_text place ++ codes "\"")
-
--- places that last, and the closing bracket
-abbrev pub said_anchors : Bool → List Lasting → List ℕ
-said_anchors later [] = codes "]"
-said_anchors later (p ∷ ps) = comma_after later ++ (said_anchor p ++ said_anchors true ps)
 
 -- where a place stands, or that it isn't known
 abbrev pub said_place : Option ℕ → List ℕ
 said_place None = codes "null"
 said_place (Some at) = decimal at
-
--- where places stand, and the closing bracket
-abbrev pub said_places : Bool → List (Option ℕ) → List ℕ
-said_places later [] = codes "]"
-said_places later (p ∷ ps) = comma_after later ++ (said_place p ++ said_places true ps)
 
 -- without the last byte
 abbrev pub but_last : List ℕ → List ℕ
@@ -133,7 +114,7 @@ said_put s = said_attributes (said_marks s.marks) ++ (codes "\"insert\":" ++ (sa
 -- the comments that characters have now, or that they have none
 abbrev pub said_comments_now : List ℕ → List ℕ
 said_comments_now [] = codes "{\"comments\":null"
-said_comments_now (id ∷ ids) = codes "{\"comments\":[" ++ said_ids false (id ∷ ids)
+said_comments_now (id ∷ ids) = codes "{\"comments\":[" ++ said_list said_id false (id ∷ ids)
 
 -- whether they have a mark now
 abbrev pub said_now : Bool → List ℕ
@@ -159,11 +140,6 @@ said_step (change.Drop n) = codes "{\"delete\":" ++ (decimal n ++ codes "}")
 said_step (change.Put span) = said_put span
 said_step (change.Mark n marks) = codes "{\"attributes\":" ++ (said_marks_now marks ++ (codes ",\"retain\":" ++ (decimal n ++ codes "}")))
 
--- steps, and the closing bracket
-abbrev pub said_steps : Bool → List ChangeStep → List ℕ
-said_steps later [] = codes "]"
-said_steps later (s ∷ ss) = comma_after later ++ (said_step s ++ said_steps true ss)
-
 -- a step keeps characters as they are
 abbrev pub is_kept : Option ChangeStep → Bool
 is_kept None = false
@@ -179,17 +155,17 @@ but_last_kept steps = if is_kept (slice_get steps (length steps - 1)) then take 
 -- the answer what changed
 abbrev pub said_changed : ℕ → List ChangeStep → List ℕ
 said_changed rev steps =
-    codes "{\"changes\":[" ++ (said_steps false (but_last_kept steps) ++ (codes ",\"ok\":true,\"rev\":" ++ (decimal rev ++ codes "}\n")))
+    codes "{\"changes\":[" ++ (said_list said_step false (but_last_kept steps) ++ (codes ",\"ok\":true,\"rev\":" ++ (decimal rev ++ codes "}\n")))
 
 -- the answer that names places
 abbrev pub said_named : ℕ → List Lasting → List ℕ
 said_named rev places =
-    codes "{\"anchors\":[" ++ (said_anchors false places ++ (codes ",\"ok\":true,\"rev\":" ++ (decimal rev ++ codes "}\n")))
+    codes "{\"anchors\":[" ++ (said_list said_anchor false places ++ (codes ",\"ok\":true,\"rev\":" ++ (decimal rev ++ codes "}\n")))
 
 -- the answer where places stand
 abbrev pub said_standing : ℕ → List (Option ℕ) → List ℕ
 said_standing rev places =
-    codes "{\"ok\":true,\"places\":[" ++ (said_places false places ++ (codes ",\"rev\":" ++ (decimal rev ++ codes "}\n")))
+    codes "{\"ok\":true,\"places\":[" ++ (said_list said_place false places ++ (codes ",\"rev\":" ++ (decimal rev ++ codes "}\n")))
 
 -- the answer to an edit
 abbrev pub said_edited : ℕ → List ℕ
@@ -213,7 +189,7 @@ said_exported rev bytes =
 -- the answer that lists spans
 abbrev pub said_listed : ℕ → List Span → List ℕ
 said_listed rev spans =
-    codes "{\"ok\":true,\"rev\":" ++ (decimal rev ++ (codes ",\"spans\":[" ++ (said_spans false spans ++ codes "}\n")))
+    codes "{\"ok\":true,\"rev\":" ++ (decimal rev ++ (codes ",\"spans\":[" ++ (said_list said_span false spans ++ codes "}\n")))
 
 -- the answer that says how far a replica is
 abbrev pub said_status : ℕ → ℕ → State → List ℕ
@@ -229,15 +205,10 @@ said_peer p =
     ++ (codes ",\"lacks\":" ++ (decimal p.lacks
     ++ (codes ",\"replica\":" ++ (said_replica p.replica ++ codes "}")))))
 
--- peers, and the closing bracket
-abbrev pub said_peers : Bool → List PeerCounts → List ℕ
-said_peers later [] = codes "]"
-said_peers later (p ∷ ps) = comma_after later ++ (said_peer p ++ said_peers true ps)
-
 -- the answer that says who is connected
 abbrev pub said_connected : List PeerCounts → ℕ → List ℕ
 said_connected peers sessions =
-    codes "{\"ok\":true,\"peers\":[" ++ (said_peers false peers
+    codes "{\"ok\":true,\"peers\":[" ++ (said_list said_peer false peers
     ++ (codes ",\"sessions\":" ++ (decimal sessions ++ codes "}\n")))
 
 -- the answer that says why a request isn't served
@@ -268,12 +239,14 @@ said (answer.Places rev places) = said_standing rev places
 said (answer.Exported rev text) = said_exported rev text
 said (answer.Status applied settled state) = said_status applied settled state
 said (answer.Peers peers sessions) = said_connected peers sessions
+said (answer.Documents documents) = said_counted documents
+said (answer.Room room) = said_room room
 said answer.Stopped = said_done
 said answer.Done = said_done
 said (answer.Refused r) = said_refused r
 said (answer.RefusedAt r at) = said_refused_at r at
 
--- an answer that shows what a document has, or who is linked, is as long as that: it needs memory to be said
+-- an answer that shows what documents have, who is linked, or the room needs memory to be said
 abbrev pub is_long : Answer → Bool
 is_long (answer.Edited rev) = false
 is_long (answer.Text rev text) = true
@@ -284,6 +257,8 @@ is_long (answer.Places rev places) = true
 is_long (answer.Exported rev text) = true
 is_long (answer.Status applied settled state) = false
 is_long (answer.Peers peers sessions) = true
+is_long (answer.Documents documents) = true
+is_long (answer.Room room) = true
 is_long answer.Stopped = false
 is_long answer.Done = false
 is_long (answer.Refused r) = false

@@ -27,9 +27,11 @@ pub(crate) fn lasting(text: &str) -> Option<Lasting>
 fn beside(bytes: &[u8]) -> Option<Lasting>
     ensures { result ≡ beside_named bytes.now }
 {
-    match bytes {
-        [b'a', text @ ..] => Some(Lasting::Beside(Anchor::After(id(text)?))),
-        [b'b', text @ ..] => Some(Lasting::Beside(Anchor::Before(id(text)?))),
+    let (side, text) = bytes.split_first()?;
+    let id = id(text)?;
+    match side {
+        b'a' => Some(Lasting::Beside(Anchor::After(id))),
+        b'b' => Some(Lasting::Beside(Anchor::Before(id))),
         _ => None,
     }
 }

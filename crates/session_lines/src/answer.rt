@@ -1,16 +1,18 @@
 //! What a session is answered.
 
 use crate::change_list::ChangeList;
+use crate::document_list::DocumentList;
 use crate::exported::Exported;
 use crate::lasting_list::LastingList;
 use crate::peer_list::PeerList;
 use crate::place_list::PlaceList;
 use crate::refusal::Refusal;
 use crate::span_list::SpanList;
+use list_counts::Room;
 use op_model::Text;
 
 /// What a session is answered.
-#[derive(Debug, Drop)]
+#[derive(Drop)]
 pub enum Answer {
     /// An edit is settled; the document had `rev` operations right after it.
     Edited {
@@ -56,6 +58,14 @@ pub enum Answer {
     Peers {
         peers: PeerList,
         sessions: u64,
+    },
+    /// What is counted of each document that has operations.
+    Documents {
+        documents: DocumentList,
+    },
+    /// How much there is of what there is a limit to.
+    Room {
+        room: Room,
     },
     /// All that was applied before the stop is settled.
     Stopped,

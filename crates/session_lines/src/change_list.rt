@@ -5,7 +5,7 @@ use op_model::ChangeStep;
 use std::marker::Model;
 
 /// What changed in a text, as steps over it. Contracts see the list of them.
-#[derive(Debug, Drop)]
+#[derive(Drop)]
 pub struct ChangeList {
     steps: Vec<ChangeStep>,
 }

@@ -1,14 +1,15 @@
 //! What changed in a text, as JSON.
 ghost use Rattle.std.specs.Prelude.{◌≡◌, ◌↔◌, ◌++◌, [], false, IsTrue, codes, decimal};
+ghost use Rattle.session_lines.specs.Words.{said_list};
 ghost use Rattle.session_lines.specs.Putting.{Puts};
 ghost use Rattle.std.specs.Option.{option_copied};
 ghost use Rattle.session_lines.specs.Saying.{but_last_kept, is_kept, said_attributes, said_comments_now};
 ghost use Rattle.session_lines.specs.Saying.{said_link_now, said_marks, said_marks_now, said_now};
-ghost use Rattle.session_lines.specs.Saying.{said_put, said_step, said_steps};
+ghost use Rattle.session_lines.specs.Saying.{said_put, said_step};
 
-use crate::peers::put_number;
-use crate::quoted::{comma, put, put_characters, put_quoted};
-use crate::spans::{put_ids, put_marks};
+use crate::numbered::put_numbered;
+use crate::quoted::{comma, put, put_quoted};
+use crate::spans::{put_ids, put_marks, put_text};
 use op_model::{ChangeStep, CommentId, Marks, Span, Url};
 use std::alloc::AllocError;
 
@@ -37,9 +38,7 @@ fn put_put(span: &Span, out: &mut Vec<u8>) -> Result<(), AllocError>
     ensures { Puts result out.old out.new (said_put span.now) }
 {
     put_attributes(&span.marks, out)?;
-    put(b"\"insert\":", out)?;
-    put_characters(span.text.as_slice(), out)?;
-    put(b"}", out)
+    put_text(b"\"insert\":", span.text.as_slice(), out)
 }
 
 /// Puts the comments that characters have now, or that they have none.
@@ -64,6 +63,14 @@ fn put_now(there: bool, out: &mut Vec<u8>) -> Result<(), AllocError>
     }
 }
 
+/// Puts the name of a mark, and whether characters have it now.
+fn put_flag(name: &[u8], there: bool, out: &mut Vec<u8>) -> Result<(), AllocError>
+    ensures { Puts result out.old out.new (name.now ++ said_now there) }
+{
+    put(name, out)?;
+    put_now(there, out)
+}
+
 /// Puts the link that characters have now, or that they have none.
 fn put_link_now(link: &Option<Url>, out: &mut Vec<u8>) -> Result<(), AllocError>
     ensures { Puts result out.old out.new (said_link_now link.now) }
@@ -79,12 +86,10 @@ fn put_marks_now(marks: &Marks, out: &mut Vec<u8>) -> Result<(), AllocError>
     ensures { Puts result out.old out.new (said_marks_now marks.now) }
 {
     put_comments_now(marks.comments.as_slice(), out)?;
-    put(b",\"em\":", out)?;
-    put_now(marks.em, out)?;
+    put_flag(b",\"em\":", marks.em, out)?;
     put(b",\"link\":", out)?;
     put_link_now(&marks.link, out)?;
-    put(b",\"strong\":", out)?;
-    put_now(marks.strong, out)?;
+    put_flag(b",\"strong\":", marks.strong, out)?;
     put(b"}", out)
 }
 
@@ -92,9 +97,7 @@ fn put_marks_now(marks: &Marks, out: &mut Vec<u8>) -> Result<(), AllocError>
 fn put_count(name: &[u8], count: usize, out: &mut Vec<u8>) -> Result<(), AllocError>
     ensures { Puts result out.old out.new (name.now ++ (decimal count ++ codes "}")) }
 {
-    put(name, out)?;
-    put_number(count as u64, out)?;
-    put(b"}", out)
+    put_numbered(name, count as u64, b"}", out)
 }
 
 /// Puts characters that stay with other marks.
@@ -137,14 +140,14 @@ fn but_last_kept(steps: &[ChangeStep]) -> &[ChangeStep]
 
 /// Puts steps without a last one that keeps characters as they are, and the closing bracket.
 pub(crate) fn put_changes(steps: &[ChangeStep], out: &mut Vec<u8>) -> Result<(), AllocError>
-    ensures { Puts result out.old out.new (said_steps false (but_last_kept steps.now)) }
+    ensures { Puts result out.old out.new (said_list said_step false (but_last_kept steps.now)) }
 {
     put_steps(but_last_kept(steps), out)
 }
 
 /// Puts steps, and the closing bracket.
 fn put_steps(steps: &[ChangeStep], out: &mut Vec<u8>) -> Result<(), AllocError>
-    ensures { Puts result out.old out.new (said_steps false steps.now) }
+    ensures { Puts result out.old out.new (said_list said_step false steps.now) }
 {
     let mut later = false;
     for step in steps {

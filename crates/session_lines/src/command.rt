@@ -50,6 +50,10 @@ pub enum Command {
     Status,
     /// Who is connected.
     Peers,
+    /// What is counted of each document.
+    Documents,
+    /// How much there is of what there is a limit to.
+    Room,
     /// That no more edits be taken, and all be settled.
     Stop,
 }

@@ -13,7 +13,7 @@ use crate::verb::Verb;
 use op_model::{Action, Change, Edit};
 use placed_edits::{PlacedAction, PlacedChange, Spots};
 use serde_json::Value;
-use std::alloc::{AllocError, Global};
+use std::alloc::Global;
 
 /// The request for several edits at once: the document, the number of operations that it has to
 /// have and the token stand beside the list of them, and the changes alone in it. An error is out
@@ -56,7 +56,7 @@ fn listed(alloc: Global, value: &Value) -> Result<PlacedChange, Refusal>
 }
 
 /// Several changes, and the places of each.
-#[derive(Debug, Drop)]
+#[derive(Drop)]
 struct Several {
     changes: Vec<Change>,
     spots: Vec<Spots>,
@@ -73,8 +73,8 @@ fn each_listed(alloc: Global, items: &[Value]) -> Result<Several, Refusal>
     let mut places = Vec::with_capacity(alloc, items.len())?;
     for item in items {
         let PlacedChange { change, spots } = listed(alloc, item)?;
-        changes.push(change).map_err(AllocError::from)?;
-        places.push(spots).map_err(AllocError::from)?;
+        changes.push(change)?;
+        places.push(spots)?;
     }
     Ok(Several {
         changes,

@@ -1,18 +1,18 @@
 //! The peers that are linked.
 ghost use Rattle.std.specs.Prelude.{◌≡◌};
 
-use peer_counts::PeerCounts;
+use list_counts::PeerCounts;
 use std::marker::Model;
 
 /// The peers that are linked. Contracts see the list of them.
-#[derive(Debug, Drop)]
+#[derive(Drop)]
 pub struct PeerList {
     peers: Vec<PeerCounts>,
 }
 
 impl Model for PeerList {
     ghost use Rattle.std.specs.Prelude.{List};
-    ghost use Rattle.peer_counts.specs.declared.peer_counts.PeerCounts.{PeerCounts};
+    ghost use Rattle.list_counts.specs.declared.peer_counts.PeerCounts.{PeerCounts};
 
     ghost Value = { List PeerCounts };
 

@@ -5,7 +5,7 @@ use std::marker::Model;
 
 /// For each of some places how many visible characters stand before it, if it is known. Contracts
 /// see the list of them.
-#[derive(Debug, Drop)]
+#[derive(Drop)]
 pub struct PlaceList {
     places: Vec<Option<usize>>,
 }

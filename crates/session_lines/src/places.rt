@@ -1,10 +1,11 @@
 //! Places that last, and where they stand, as JSON.
-ghost use Rattle.std.specs.Prelude.{false};
+ghost use Rattle.std.specs.Prelude.{◌++◌, false};
+ghost use Rattle.session_lines.specs.Words.{said_list};
 ghost use Rattle.session_lines.specs.Putting.{Puts};
 ghost use Rattle.session_lines.specs.Anchors.{id_text, lasting_text};
-ghost use Rattle.session_lines.specs.Saying.{said_anchor, said_anchors, said_place, said_places};
+ghost use Rattle.session_lines.specs.Saying.{said_anchor, said_place};
 
-use crate::peers::put_number;
+use crate::numbered::put_number;
 use crate::quoted::{comma, put};
 use op_ids::OpId;
 use op_model::{Anchor, Lasting};
@@ -24,6 +25,14 @@ fn put_id(id: OpId, out: &mut Vec<u8>) -> Result<(), AllocError>
     put(name.as_bytes(), out)
 }
 
+/// Puts the text of a place beside a character: its side, and the character's id.
+fn put_beside(side: &[u8], id: OpId, out: &mut Vec<u8>) -> Result<(), AllocError>
+    ensures { Puts result out.old out.new (side.now ++ id_text id) }
+{
+    put(side, out)?;
+    put_id(id, out)
+}
+
 /// Puts the text of a place.
 fn put_lasting(place: &Lasting, out: &mut Vec<u8>) -> Result<(), AllocError>
     ensures { Puts result out.old out.new (lasting_text place.now) }
@@ -31,14 +40,8 @@ fn put_lasting(place: &Lasting, out: &mut Vec<u8>) -> Result<(), AllocError>
     match place {
         Lasting::StartOfText => put(b"start", out),
         Lasting::EndOfText => put(b"end", out),
-        Lasting::Beside(Anchor::After(id)) => {
-            put(b"a", out)?;
-            put_id(*id, out)
-        }
-        Lasting::Beside(Anchor::Before(id)) => {
-            put(b"b", out)?;
-            put_id(*id, out)
-        }
+        Lasting::Beside(Anchor::After(id)) => put_beside(b"a", *id, out),
+        Lasting::Beside(Anchor::Before(id)) => put_beside(b"b", *id, out),
     }
 }
 
@@ -53,7 +56,7 @@ fn put_anchor(place: &Lasting, out: &mut Vec<u8>) -> Result<(), AllocError>
 
 /// Puts places, and the closing bracket.
 pub(crate) fn put_anchors(places: &[Lasting], out: &mut Vec<u8>) -> Result<(), AllocError>
-    ensures { Puts result out.old out.new (said_anchors false places.now) }
+    ensures { Puts result out.old out.new (said_list said_anchor false places.now) }
 {
     let mut later = false;
     for place in places {
@@ -76,7 +79,7 @@ fn put_place(place: Option<usize>, out: &mut Vec<u8>) -> Result<(), AllocError>
 
 /// Puts where places stand, and the closing bracket.
 pub(crate) fn put_places(places: &[Option<usize>], out: &mut Vec<u8>) -> Result<(), AllocError>
-    ensures { Puts result out.old out.new (said_places false places.now) }
+    ensures { Puts result out.old out.new (said_list said_place false places.now) }
 {
     let mut later = false;
     for place in places {

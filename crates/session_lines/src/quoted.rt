@@ -64,9 +64,7 @@ fn put_inside(bytes: &[u8], out: &mut Vec<u8>) -> Result<(), AllocError>
 pub(crate) fn put_quoted(text: &str, out: &mut Vec<u8>) -> Result<(), AllocError>
     ensures { Puts result out.old out.new (quoted text.now) }
 {
-    put(b"\"", out)?;
-    put_inside(text.as_bytes(), out)?;
-    put(b"\"", out)
+    put_quoted_bytes(text.as_bytes(), out)
 }
 
 /// Puts bytes of UTF-8 as a JSON string.

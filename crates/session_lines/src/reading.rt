@@ -1,7 +1,8 @@
 //! The requests that look for a text, or read a document in another form.
 ghost use Rattle.serde_json.specs.View.{view};
 ghost use Rattle.session_lines.specs.Fields.{Reads};
-ghost use Rattle.session_lines.specs.Reading.{export_asked, find_asked, form_of, from_of, sought_of};
+ghost use Rattle.session_lines.specs.Reading.{breaks_of, export_asked, find_asked, form_of};
+ghost use Rattle.session_lines.specs.Reading.{from_of, sought_of};
 
 use crate::command::Command;
 use crate::fields::{characters, only, optional, whole};
@@ -27,7 +28,7 @@ pub(crate) fn find(alloc: Global, value: &Value) -> Result<Command, Refusal>
 pub(crate) fn export(value: &Value) -> Result<Command, Refusal>
     ensures { Reads result (export_asked (view value.now)) }
 {
-    only(value, &["op", "doc", "to"])?;
+    only(value, &["op", "doc", "to", "breaks"])?;
     let doc = whole(value, "doc", 1)?;
     let form = form(value)?;
     Ok(Command::Export { doc, form })
@@ -59,9 +60,19 @@ fn from(value: &Value) -> Result<u32, Refusal>
 fn form(value: &Value) -> Result<Form, Refusal>
     ensures { Reads result (form_of (view value.now)) }
 {
-    value
-        .get("to")
-        .and_then(Value::as_str)
-        .and_then(Form::named)
-        .ok_or(Refusal::Field)
+    let breaks = breaks(value)?;
+    match value.get("to").and_then(Value::as_str) {
+        Some(name) => Form::named(name, breaks).ok_or(Refusal::Field),
+        None => Err(Refusal::Field),
+    }
+}
+
+/// Whether breaks of the line are asked for in place of paragraphs: not if nothing is said of them.
+fn breaks(value: &Value) -> Result<bool, Refusal>
+    ensures { Reads result (breaks_of (view value.now)) }
+{
+    match value.get("breaks") {
+        Some(found) => found.as_bool().ok_or(Refusal::Field),
+        None => Ok(false),
+    }
 }

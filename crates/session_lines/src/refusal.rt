@@ -5,54 +5,59 @@ ghost use Rattle.session_lines.specs.declared.refusal.Refusal.TheVariants.{Memor
 use fixed_numbers::refusals::{
     BUSY, FAILED, FIELD, LIMIT, LINE, MEMORY, RANGE, REQUEST, STALE, STEPS, STOPPING, SYNTAX,
 };
-use std::alloc::AllocError;
-use thiserror::Error;
+use std::alloc::{AllocError, AllocFailed};
+use std::error::Error;
+use std::fmt;
 
 /// Why a request isn't served. Each refusal has a number and a word, which stand in its answer.
-#[derive(Clone, Copy, Debug, Drop, PartialEq, Eq, Error)]
+#[derive(Clone, Copy, Debug, Drop, PartialEq, Eq)]
 pub enum Refusal {
     /// 1: a growth was refused.
-    #[error("memory")]
     Memory,
     /// 2: the line isn't read as JSON.
-    #[error("syntax")]
     Syntax,
     /// 3: no such request.
-    #[error("request")]
     Request,
     /// 4: a field is missing, unknown or out of its rule.
-    #[error("field")]
     Field,
     /// 5: an index outside the visible text.
-    #[error("range")]
     Range,
     /// 6: the document isn't at the asked number of operations.
-    #[error("stale")]
     Stale,
     /// 7: a limit of a request, a clock or the store.
-    #[error("limit")]
     Limit,
     /// 8: no room for pending bytes, or too many sessions.
-    #[error("busy")]
     Busy,
     /// 9: the device failed, or no commit could begin.
-    #[error("failed")]
     Failed,
     /// 10: no place for kept steps.
-    #[error("steps")]
     Steps,
     /// 11: a line over 65,536 bytes.
-    #[error("line")]
     Line,
     /// 12: an edit after a stop.
-    #[error("stopping")]
     Stopping,
 }
+
+impl fmt::Display for Refusal {
+    fn fmt<W: fmt::Write>(&self, f: &mut fmt::Formatter<W>) -> fmt::Result {
+        f.write_str(self.word())
+    }
+}
+
+impl Error for Refusal {}
 
 impl From<AllocError> for Refusal {
     ghost from_gives = { λ _ e. e ≡ Memory };
 
     fn from(_error: AllocError) -> Refusal {
+        Refusal::Memory
+    }
+}
+
+impl<T: Drop> From<AllocFailed<T>> for Refusal {
+    ghost from_gives = { λ _ e. e ≡ Memory };
+
+    fn from(_error: AllocFailed<T>) -> Refusal {
         Refusal::Memory
     }
 }

@@ -3,7 +3,8 @@ ghost use Rattle.serde_json.specs.View.{view};
 ghost use Rattle.session_lines.specs.Edits.{edit_asked};
 ghost use Rattle.session_lines.specs.Fields.{Reads};
 ghost use Rattle.session_lines.specs.Requests.{verb_of, request_of};
-ghost use Rattle.session_lines.specs.Requests.{text_asked, anchors_asked, changes_asked, places_asked};
+ghost use Rattle.session_lines.specs.Requests.{text_asked, anchors_asked, bare_asked, changes_asked};
+ghost use Rattle.session_lines.specs.Requests.{places_asked};
 
 use crate::command::Command;
 use crate::edits::edits;
@@ -37,19 +38,20 @@ pub(crate) fn request(alloc: Global, value: &Value) -> Result<Command, Refusal>
         Verb::Places => places(alloc, value),
         Verb::Find => find(alloc, value),
         Verb::Export => export(value),
-        Verb::Status => {
-            only(value, &["op"])?;
-            Ok(Command::Status)
-        }
-        Verb::Peers => {
-            only(value, &["op"])?;
-            Ok(Command::Peers)
-        }
-        Verb::Stop => {
-            only(value, &["op"])?;
-            Ok(Command::Stop)
-        }
+        Verb::Status => bare(value, Command::Status),
+        Verb::Peers => bare(value, Command::Peers),
+        Verb::Documents => bare(value, Command::Documents),
+        Verb::Room => bare(value, Command::Room),
+        Verb::Stop => bare(value, Command::Stop),
     }
+}
+
+/// A request that has no field but its name, and asks for this.
+fn bare(value: &Value, command: Command) -> Result<Command, Refusal>
+    ensures { Reads result (bare_asked command (view value.now)) }
+{
+    only(value, &["op"])?;
+    Ok(command)
 }
 
 /// The request for a text.

@@ -13,7 +13,7 @@ use crate::numbers::Numbers;
 use crate::refusal::Refusal;
 use op_model::{Anchor, Lasting, Neighbour};
 use serde_json::Value;
-use std::alloc::{AllocError, Global};
+use std::alloc::Global;
 
 /// How many places one request asks for at most.
 pub const MAX_PLACES: usize = 256;
@@ -104,7 +104,7 @@ fn each_number(alloc: Global, items: &[Value], low: u32) -> Result<Numbers, Refu
         let Some(number) = as_whole(item, low) else {
             return Err(Refusal::Field);
         };
-        numbers.push(number).map_err(AllocError::from)?;
+        numbers.push(number)?;
     }
     Ok(Numbers::from(numbers))
 }
@@ -127,7 +127,7 @@ fn each_anchor(alloc: Global, items: &[Value]) -> Result<LastingList, Refusal>
         let Some(anchor) = as_lasting(item) else {
             return Err(Refusal::Field);
         };
-        anchors.push(anchor).map_err(AllocError::from)?;
+        anchors.push(anchor)?;
     }
     Ok(LastingList::from(anchors))
 }

@@ -5,7 +5,7 @@ use op_model::Span;
 use std::marker::Model;
 
 /// The spans of a document. Contracts see the list of them.
-#[derive(Debug, Drop)]
+#[derive(Drop)]
 pub struct SpanList {
     spans: Vec<Span>,
 }

@@ -1,8 +1,9 @@
 //! Spans and what they are made of, as JSON.
-ghost use Rattle.std.specs.Prelude.{false};
+ghost use Rattle.std.specs.Prelude.{◌++◌, false, codes};
+ghost use Rattle.session_lines.specs.Words.{said_list};
 ghost use Rattle.session_lines.specs.Putting.{Puts};
-ghost use Rattle.session_lines.specs.Saying.{said_id, said_ids, said_comments};
-ghost use Rattle.session_lines.specs.Saying.{said_if, said_link, said_marks, said_span, said_spans};
+ghost use Rattle.session_lines.specs.Saying.{said_characters, said_id, said_comments};
+ghost use Rattle.session_lines.specs.Saying.{said_if, said_link, said_marks, said_span};
 
 use crate::quoted::{comma, put, put_characters, put_quoted};
 use op_model::{CommentId, Marks, Span, Url};
@@ -22,7 +23,7 @@ fn put_id(id: CommentId, out: &mut Vec<u8>) -> Result<(), AllocError>
 
 /// Puts the names of comments, and the closing bracket.
 pub(crate) fn put_ids(ids: &[CommentId], out: &mut Vec<u8>) -> Result<(), AllocError>
-    ensures { Puts result out.old out.new (said_ids false ids.now) }
+    ensures { Puts result out.old out.new (said_list said_id false ids.now) }
 {
     let mut later = false;
     for id in ids {
@@ -76,20 +77,27 @@ pub(crate) fn put_marks(marks: &Marks, out: &mut Vec<u8>) -> Result<(), AllocErr
     put_mark(marks.strong, b"\"strong\":true,", out)
 }
 
+/// Puts the name of a text, the text, and the bracket that closes what it stands in.
+pub(crate) fn put_text(name: &[u8], text: &[char], out: &mut Vec<u8>) -> Result<(), AllocError>
+    ensures { Puts result out.old out.new (name.now ++ (said_characters text.now ++ codes "}")) }
+{
+    put(name, out)?;
+    put_characters(text, out)?;
+    put(b"}", out)
+}
+
 /// Puts a span: its marks, and then its text.
 fn put_span(span: &Span, out: &mut Vec<u8>) -> Result<(), AllocError>
     ensures { Puts result out.old out.new (said_span span.now) }
 {
     put(b"{", out)?;
     put_marks(&span.marks, out)?;
-    put(b"\"text\":", out)?;
-    put_characters(span.text.as_slice(), out)?;
-    put(b"}", out)
+    put_text(b"\"text\":", span.text.as_slice(), out)
 }
 
 /// Puts spans, and the closing bracket.
 pub(crate) fn put_spans(spans: &[Span], out: &mut Vec<u8>) -> Result<(), AllocError>
-    ensures { Puts result out.old out.new (said_spans false spans.now) }
+    ensures { Puts result out.old out.new (said_list said_span false spans.now) }
 {
     let mut later = false;
     for span in spans {

@@ -12,7 +12,7 @@ use serde_json::Value;
 
 /// The place of an edit: a number of visible characters, or a place that lasts, beside which the
 /// number is 0 and says nothing.
-#[derive(Clone, Copy, Debug)]
+#[derive(Clone, Copy)]
 pub(crate) struct Spot {
     pub(crate) number: u32,
     pub(crate) place: Option<Lasting>,

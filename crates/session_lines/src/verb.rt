@@ -3,7 +3,7 @@ ghost use Rattle.std.specs.Prelude.{◌≡◌};
 ghost use Rattle.session_lines.specs.Fields.{verb_named};
 
 /// What kind of request a line is.
-#[derive(Clone, Copy, Debug, Drop, PartialEq, Eq)]
+#[derive(Clone, Copy, Drop)]
 pub enum Verb {
     Insert,
     Delete,
@@ -19,6 +19,8 @@ pub enum Verb {
     Export,
     Status,
     Peers,
+    Documents,
+    Room,
     Stop,
 }
 
@@ -42,6 +44,8 @@ impl Verb {
             "export" => Some(Verb::Export),
             "status" => Some(Verb::Status),
             "peers" => Some(Verb::Peers),
+            "documents" => Some(Verb::Documents),
+            "room" => Some(Verb::Room),
             "stop" => Some(Verb::Stop),
             _ => None,
         }

@@ -12,7 +12,7 @@ use Rattle.locked_replica.specs.Run.{Calls}
 use Rattle.session_lines.specs.Saying.{number_of}
 use Rattle.session_lines.specs.declared.answer.Answer.{Answer}
 use Rattle.session_lines.specs.declared.answer.Answer.TheVariants.{Edited, Text, Spans, Changes, Anchors, Places, Exported}
-use Rattle.session_lines.specs.declared.answer.Answer.TheVariants.{Status, Peers, Stopped, Done, Refused, RefusedAt}
+use Rattle.session_lines.specs.declared.answer.Answer.TheVariants.{Status, Peers, Documents, Room, Stopped, Done, Refused, RefusedAt}
 use Rattle.session_threads.specs.ActsOnce.{ChangesNothing}
 use Rattle.session_threads.specs.HeldDesk.{HeldDesk}
 use Rattle.session_lines.specs.declared.refusal.Refusal.{Refusal}
@@ -84,6 +84,8 @@ module _ {D : Type 0} (facts : Ghosts D) where
   answered_known session old new e t (Exported rev bytes) found settled never = absurd never
   answered_known session old new e t (Status applied n s) found settled never = absurd never
   answered_known session old new e t (Peers peers sessions) found settled never = absurd never
+  answered_known session old new e t (Documents documents) found settled never = absurd never
+  answered_known session old new e t (Room room) found settled never = absurd never
   answered_known session old new e t Stopped found settled never = absurd never
   answered_known session old new e t Done found settled never = absurd never
   answered_known session old new e t (RefusedAt refusal at) found settled it = absurd (known_never_refused session old new e t refusal (Some at) found it)

@@ -8,7 +8,7 @@ use Rattle.locked_replica.specs.Hub.{Parts, state_of}
 use Rattle.session_lines.specs.Saying.{number_of}
 use Rattle.session_lines.specs.declared.answer.Answer.{Answer}
 use Rattle.session_lines.specs.declared.answer.Answer.TheVariants.{Edited, Text, Spans, Changes, Anchors, Places, Exported}
-use Rattle.session_lines.specs.declared.answer.Answer.TheVariants.{Status, Peers, Stopped, Done, Refused, RefusedAt}
+use Rattle.session_lines.specs.declared.answer.Answer.TheVariants.{Status, Peers, Documents, Room, Stopped, Done, Refused, RefusedAt}
 use Rattle.session_lines.specs.declared.refusal.Refusal.{Refusal}
 use Rattle.session_lines.specs.declared.refusal.Refusal.TheVariants.{Failed}
 use Rattle.session_threads.specs.HubCalls.{IsQuiet, Commits, is_edit_refusal}
@@ -34,6 +34,8 @@ module _ {D : Type 0} (facts : Ghosts D) where
   answered session old between new e t (Exported rev bytes) call never = absurd never
   answered session old between new e t (Status applied settled s) call never = absurd never
   answered session old between new e t (Peers peers sessions) call never = absurd never
+  answered session old between new e t (Documents documents) call never = absurd never
+  answered session old between new e t (Room room) call never = absurd never
   answered session old between new e t Stopped call never = absurd never
   answered session old between new e t Done call never = absurd never
   answered session old between new e t (RefusedAt refusal at) call never = absurd never

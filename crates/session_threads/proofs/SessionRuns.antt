@@ -11,7 +11,7 @@ use Rattle.session_lines.specs.declared.command.Command.{Command}
 use Rattle.session_lines.specs.declared.command.Command.TheVariants as command
 use Rattle.session_lines.specs.declared.answer.Answer.{Answer}
 use Rattle.session_lines.specs.declared.answer.Answer.TheVariants.{Edited, Text, Spans, Changes, Anchors, Places, Exported}
-use Rattle.session_lines.specs.declared.answer.Answer.TheVariants.{Status, Peers, Stopped, Done, Refused, RefusedAt}
+use Rattle.session_lines.specs.declared.answer.Answer.TheVariants.{Status, Peers, Documents, Room, Stopped, Done, Refused, RefusedAt}
 use Rattle.session_lines.specs.declared.refusal.Refusal.{Refusal}
 use Rattle.session_threads.specs.Exchanges.{IsAnswered, Exchange, Exchanges}
 use Rattle.session_threads.specs.HeldDesk.{HeldDesk}
@@ -39,6 +39,8 @@ module _ {D : Type 0} (facts : Ghosts D) where
   edit_goes session old new e (Exported rev bytes) never = absurd never
   edit_goes session old new e (Status applied settled s) never = absurd never
   edit_goes session old new e (Peers peers sessions) never = absurd never
+  edit_goes session old new e (Documents documents) never = absurd never
+  edit_goes session old new e (Room room) never = absurd never
   edit_goes session old new e Stopped never = absurd never
   edit_goes session old new e Done never = absurd never
   edit_goes session old new e (RefusedAt refusal at) it = ((edit session e, refused (number_of refusal)) ∷ [], it.calls)
@@ -62,6 +64,8 @@ module _ {D : Type 0} (facts : Ghosts D) where
   command_goes old new (command.Export doc form) answer (said, same) = stays old new same
   command_goes old new command.Status answer (said, same) = stays old new same
   command_goes old new command.Peers answer (said, same) = stays old new same
+  command_goes old new command.Documents answer (said, same) = stays old new same
+  command_goes old new command.Room answer (said, same) = stays old new same
   command_goes old new command.Stop answer (is_settled, said, commits, stopping) = (commits.calls.events, commits.calls.calls)
 
   answer_goes : (old new : HeldDesk D) (taken : Result Command Refusal) (answer : Answer) → IsAnswered (Serves facts) old taken answer new

@@ -2,6 +2,7 @@
 use Rattle.std.specs.Prelude.{◌≡◌, ◌≢◌, ◌⊎◌, ℕ, ◌<◌, take, Bool, true, false, ◌&&◌, List, [], ◌∷◌, ◌++◌, length, map, if◌then◌else◌}
 use Rattle.std.specs.Prelude.{Option, Some, None, is_none}
 use Rattle.disk_trait.specs.declared.facts.DiskFacts.{Ghosts}
+use Rattle.list_counts.specs.Documents.{all_counted, held_room}
 use Rattle.op_model.specs.Actions.{Asked}
 use Rattle.op_model.specs.declared.change_step.ChangeStep.{ChangeStep}
 use Rattle.op_model.specs.declared.lasting.Lasting.{Lasting}
@@ -26,7 +27,7 @@ use Rattle.session_lines.specs.declared.command.Command.{Command}
 use Rattle.session_lines.specs.declared.command.Command.TheVariants as command
 use Rattle.session_lines.specs.declared.answer.Answer.{Answer}
 use Rattle.session_lines.specs.declared.answer.Answer.TheVariants.{Edited, Text, Spans, Changes, Anchors, Places, Exported}
-use Rattle.session_lines.specs.declared.answer.Answer.TheVariants.{Status, Peers, Stopped, Refused, RefusedAt}
+use Rattle.session_lines.specs.declared.answer.Answer.TheVariants.{Status, Peers, Documents, Room, Stopped, Refused, RefusedAt}
 use Rattle.session_lines.specs.declared.answer.State.{State}
 use Rattle.session_lines.specs.declared.answer.State.TheVariants as state
 use Rattle.session_lines.specs.declared.refusal.Refusal.{Refusal}
@@ -63,6 +64,14 @@ exported_answer list doc form = Exported (rev list doc) (exported form (spans li
 -- a document as other programs read it, or out of memory
 abbrev pub ServesExport : {D : Type 0} → HeldDesk D → ℕ → Form → Answer → Type 0
 ServesExport desk doc form answer = (answer ≡ exported_answer desk.hub.replica.list doc form) ⊎ (answer ≡ Refused Memory)
+
+-- what is counted of each document, or out of memory
+abbrev pub ServesDocuments : {D : Type 0} → HeldDesk D → Answer → Type 0
+ServesDocuments desk answer = (answer ≡ Documents (all_counted desk.hub.replica.list)) ⊎ (answer ≡ Refused Memory)
+
+-- how much there is of what there is a limit to
+abbrev pub ServesRoom : {D : Type 0} → HeldDesk D → Answer → Type 0
+ServesRoom desk answer = answer ≡ Room (held_room desk.hub.replica)
 
 -- a document's number of operations isn't 0, and it had more when the hub was opened, or has fewer
 abbrev pub IsUnknownRev : ReplicaHeld → ℕ → ℕ → Type 0
@@ -199,4 +208,6 @@ module _ {D : Type 0} (facts : Ghosts D) where
   Serves old (command.Export doc form) answer new = ServesExport old doc form answer × (new ≡ old)
   Serves old command.Status answer new = ServesStatus old answer × (new ≡ old)
   Serves old command.Peers answer new = ServesPeers answer × (new ≡ old)
+  Serves old command.Documents answer new = ServesDocuments old answer × (new ≡ old)
+  Serves old command.Room answer new = ServesRoom old answer × (new ≡ old)
   Serves old command.Stop answer new = ServesStop old answer new

@@ -4,7 +4,7 @@ ghost use Rattle.session_threads.specs.HubServing.{comes_too_late, ServesEdit, S
 ghost use Rattle.session_threads.specs.HubServing.{ServesSpans};
 ghost use Rattle.session_threads.specs.HubServing.{ServesChanges, ServesAnchors, ServesPlaces, ServesStatus};
 ghost use Rattle.session_threads.specs.HubServing.{ServesFind, ServesExport};
-ghost use Rattle.session_threads.specs.HubServing.{ServesPeers, ServesStop};
+ghost use Rattle.session_threads.specs.HubServing.{ServesDocuments, ServesPeers, ServesRoom, ServesStop};
 
 use crate::committing::commit;
 use crate::desk::Desk;
@@ -15,8 +15,8 @@ use disk_trait::Disk;
 use op_model::{Action, EditText, Neighbour};
 use placed_edits::PlacedAction;
 use session_lines::{
-    Answer, ChangeList, Command, LastingList, Numbers, PeerList, PlaceList, Refusal, SpanList,
-    State,
+    Answer, ChangeList, Command, DocumentList, LastingList, Numbers, PeerList, PlaceList, Refusal,
+    SpanList, State,
 };
 use span_export::Form;
 use std::alloc::Global;
@@ -40,6 +40,8 @@ impl<D: Disk> Desk for HubDesk<D> {
             Command::Export { doc, form } => self.export(alloc, doc, form),
             Command::Status => self.status(),
             Command::Peers => alone(alloc),
+            Command::Documents => self.documents(),
+            Command::Room => self.room(),
             Command::Stop => self.stop(),
         }
     }
@@ -165,6 +167,27 @@ impl<D: Disk> HubDesk<D> {
         match self.hub.spans(doc) {
             Ok(spans) => answer_export(alloc, self.hub.rev(doc) as u64, &spans, form),
             Err(_) => Answer::Refused(Refusal::Memory),
+        }
+    }
+
+    /// What is counted of each document.
+    fn documents(&self) -> Answer
+        ensures { ServesDocuments self.now result }
+    {
+        match self.hub.documents() {
+            Ok(counts) => Answer::Documents {
+                documents: DocumentList::from(counts),
+            },
+            Err(_) => Answer::Refused(Refusal::Memory),
+        }
+    }
+
+    /// How much there is of what there is a limit to.
+    fn room(&self) -> Answer
+        ensures { ServesRoom self.now result }
+    {
+        Answer::Room {
+            room: self.hub.room(),
         }
     }
 

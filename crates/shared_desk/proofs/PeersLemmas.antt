@@ -1,6 +1,6 @@
 -- What is told of the peers that are linked.
 use Rattle.std.proofs.Common.{◌≡◌, ℕ, List, All, ap}
-use Rattle.peer_counts.specs.declared.peer_counts.PeerCounts.{PeerCounts}
+use Rattle.list_counts.specs.declared.peer_counts.PeerCounts.{PeerCounts}
 use Rattle.session_lines.specs.declared.answer.Answer.{Answer}
 use Rattle.session_lines.specs.declared.answer.Answer.TheVariants.{Peers}
 use Rattle.shared_hub.specs.Books.{PassHeld}

@@ -1,5 +1,6 @@
 -- What a desk over a shared hub answers to a command, and what it makes of its pass.
 use Rattle.std.specs.Prelude.{◌≡◌, ◌≢◌, ◌⊎◌, ℕ, ◌≤◌, ◌<◌, Bool, true, false, Option, Some, None, List, All, length}
+use Rattle.list_counts.specs.Documents.{all_counted, held_room}
 use Rattle.op_model.specs.Actions.{Asked}
 use Rattle.op_model.specs.declared.lasting.Lasting.{Lasting}
 use Rattle.op_model.specs.declared.lasting.Neighbour.{Neighbour}
@@ -9,13 +10,13 @@ use Rattle.op_model.specs.Machine.{Ticket, ack, acknowledged, known_ticket}
 use Rattle.hub_parts.specs.Locked.{LockedHeld}
 use Rattle.hub_parts.specs.Refusal.{number_of as number_of_locked}
 use Rattle.placed_edits.specs.Placed.{are_placed, Placed}
-use Rattle.peer_counts.specs.declared.peer_counts.PeerCounts.{PeerCounts}
+use Rattle.list_counts.specs.declared.peer_counts.PeerCounts.{PeerCounts}
 use Rattle.session_lines.specs.Saying.{number_of}
 use Rattle.session_lines.specs.declared.command.Command.{Command}
 use Rattle.session_lines.specs.declared.command.Command.TheVariants as command
 use Rattle.session_lines.specs.declared.answer.Answer.{Answer}
 use Rattle.session_lines.specs.declared.answer.Answer.TheVariants.{Edited, Text, Spans, Changes, Anchors, Places, Exported}
-use Rattle.session_lines.specs.declared.answer.Answer.TheVariants.{Status, Peers, Stopped, Done, Refused, RefusedAt}
+use Rattle.session_lines.specs.declared.answer.Answer.TheVariants.{Status, Peers, Documents, Room, Stopped, Done, Refused, RefusedAt}
 use Rattle.session_lines.specs.declared.answer.State.{State}
 use Rattle.session_lines.specs.declared.answer.State.TheVariants as state
 use Rattle.session_lines.specs.declared.refusal.Refusal.{Refusal}
@@ -74,6 +75,8 @@ ServesEdit old asks (Places rev places) new = ⊥
 ServesEdit old asks (Exported rev bytes) new = ⊥
 ServesEdit old asks (Status applied settled s) new = ⊥
 ServesEdit old asks (Peers peers sessions) new = ⊥
+ServesEdit old asks (Documents documents) new = ⊥
+ServesEdit old asks (Room room) new = ⊥
 ServesEdit old asks Stopped new = ⊥
 ServesEdit old asks Done new = ⊥
 
@@ -132,6 +135,15 @@ ServesExport old doc form answer new =
     × ((answer ≡ Refused Memory)
     ⊎ MomentOf old (λ l. answer ≡ exported_answer l.replica.list doc form))
 
+-- what was counted of each document at some moment, or out of memory
+abbrev pub ServesDocuments : PassHeld → Answer → PassHeld → Type 0
+ServesDocuments old answer new =
+    (new ≡ old) × ((answer ≡ Refused Memory) ⊎ MomentOf old (λ l. answer ≡ Documents (all_counted l.replica.list)))
+
+-- how much there was of what there is a limit to, at some moment
+abbrev pub ServesRoom : PassHeld → Answer → PassHeld → Type 0
+ServesRoom old answer new = (new ≡ old) × MomentOf old (λ l. answer ≡ Room (held_room l.replica))
+
 -- whether edits are taken: a failure that was told goes before a stop
 abbrev pub state_in : Bool → Bool → State
 state_in true stopping = state.Failed
@@ -172,4 +184,6 @@ Serves old (command.Find doc text from) answer new = ServesFind old doc text fro
 Serves old (command.Export doc form) answer new = ServesExport old doc form answer new
 Serves old command.Status answer new = ServesStatus old answer new
 Serves old command.Peers answer new = ServesPeers old answer new
+Serves old command.Documents answer new = ServesDocuments old answer new
+Serves old command.Room answer new = ServesRoom old answer new
 Serves old command.Stop answer new = ServesStop old answer new

@@ -5,6 +5,7 @@
 
 mod desk;
 mod ending;
+mod reading;
 mod serving;
 
 pub use desk::{Daemon, SharedDesk};

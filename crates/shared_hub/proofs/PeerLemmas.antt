@@ -8,8 +8,8 @@ use Rattle.std.specs.declared.alloc.AllocError.{AllocError}
 use Rattle.op_model.specs.Causality.{clock_of}
 use Rattle.op_model.specs.declared.op.Op.{Op}
 use Rattle.hub_parts.specs.Locked.{IsLocked, LockedHeld}
-use Rattle.peer_counts.specs.Counts.{counts_of}
-use Rattle.peer_counts.specs.declared.peer_counts.PeerCounts.{PeerCounts}
+use Rattle.list_counts.specs.Counts.{counts_of}
+use Rattle.list_counts.specs.declared.peer_counts.PeerCounts.{PeerCounts}
 use Rattle.shared_hub.specs.Books.{PassHeld, ends_of}
 use Rattle.shared_hub.specs.Peers.{IsCounted, rows_of}
 use Rattle.shared_hub.specs.Shared.{MomentOf}

@@ -2,8 +2,8 @@
 use Rattle.std.specs.Prelude.{◌≡◌, ℕ, List, [], ◌∷◌, Option, Some, None}
 use Rattle.op_model.specs.Causality.{clock_of}
 use Rattle.op_model.specs.declared.op.Op.{Op}
-use Rattle.peer_counts.specs.Counts.{counts_of}
-use Rattle.peer_counts.specs.declared.peer_counts.PeerCounts.{PeerCounts}
+use Rattle.list_counts.specs.Counts.{counts_of}
+use Rattle.list_counts.specs.declared.peer_counts.PeerCounts.{PeerCounts}
 use Rattle.shared_hub.specs.declared.connected.Peer.{Peer}
 
 -- beside this list, these are the counts of a peer that has what some clock counts

@@ -1,5 +1,6 @@
 //! What is read under the lock of a shared hub.
 ghost use Rattle.std.specs.Prelude.{◌≡◌, All, IfOk, IfSome, is_some, length};
+ghost use Rattle.list_counts.specs.Documents.{all_counted, held_room};
 ghost use Rattle.op_model.specs.Machine.{known_ticket};
 ghost use Rattle.op_model.specs.Spans.{spans as spans_of};
 ghost use Rattle.op_model.specs.Text.{text as text_of, rev as rev_of};
@@ -16,9 +17,9 @@ use crate::guarded::Guarded;
 use crate::shown::Shown;
 use crate::status::Status;
 use crate::watched::Watched;
+use list_counts::{DocumentCounts, PeerCounts, Room};
 use op_model::{Action, ChangeStep, Lasting, Neighbour, Span, Text};
 use pass_books::BookNames;
-use peer_counts::PeerCounts;
 use placed_edits::PlacedAction;
 use std::alloc::{AllocError, Global};
 
@@ -64,6 +65,22 @@ impl<J: BookNames> Guarded<J> {
             ≡ asked_at self.now.locked.replica.list placed.now) }
     {
         self.locked.asked(alloc, placed)
+    }
+
+    /// How much there is of what there is a limit to, unsettled operations included. Constant.
+    pub(crate) fn room_taken(&self) -> Room
+        ensures { result ≡ held_room self.now.locked.replica }
+    {
+        self.locked.room()
+    }
+
+    /// What is counted of each document that has operations, unsettled ones included. An error is
+    /// out of memory (1). Costs what `Locked::documents` does.
+    pub(crate) fn documents(&self) -> Result<Vec<DocumentCounts>, AllocError>
+        ensures { IfOk result
+            (λ counts. counts.items ≡ all_counted self.now.locked.replica.list) }
+    {
+        self.locked.documents()
     }
 
     /// The text of a document, unsettled operations included. An error is out of memory (1). Costs

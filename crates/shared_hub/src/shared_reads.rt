@@ -1,5 +1,6 @@
 //! What is read of a shared hub.
 ghost use Rattle.std.specs.Prelude.{◌≡◌, IfOk, IfSome, is_some, length, All};
+ghost use Rattle.list_counts.specs.Documents.{all_counted, held_room};
 ghost use Rattle.op_model.specs.Spans.{spans as spans_of};
 ghost use Rattle.op_model.specs.Text.{text as text_of, rev as rev_of};
 ghost use Rattle.replica_core.specs.Changed.{TellsChanges};
@@ -12,10 +13,10 @@ use crate::passes::Pass;
 use crate::shared::Shared;
 use crate::shown::Shown;
 use crate::status::Status;
+use list_counts::{DocumentCounts, PeerCounts, Room};
 use op_ids::{Clock, ReplicaId};
 use op_model::{ChangeStep, Lasting, Neighbour, Span, Text};
 use pass_books::BookNames;
-use peer_counts::PeerCounts;
 use std::alloc::{AllocError, Global};
 use std::sync::Wait;
 
@@ -30,6 +31,33 @@ impl<J: BookNames> Shared<J> {
         let mut guard = self.guarded.lock(rt);
         guard.audit(pass);
         guard.status()
+    }
+
+    /// How much there is of what there is a limit to, unsettled operations included. Takes no
+    /// memory. Constant.
+    pub fn room_taken<R: Wait>(&self, rt: &R, pass: &mut Pass<J>) -> Room
+        ensures same { pass.new ≡ pass.old }
+        ensures moment { MomentOf pass.old (λ l. result ≡ held_room l.replica) }
+    {
+        let mut guard = self.guarded.lock(rt);
+        guard.audit(pass);
+        guard.room_taken()
+    }
+
+    /// What is counted of each document that has operations, unsettled ones included, in rising
+    /// order of their numbers. An error is out of memory (1). Costs what `Locked::documents` does.
+    pub fn documents<R: Wait>(
+        &self,
+        rt: &R,
+        pass: &mut Pass<J>,
+    ) -> Result<Vec<DocumentCounts>, AllocError>
+        ensures same { pass.new ≡ pass.old }
+        ensures moment { IfOk result (λ counts. MomentOf pass.old
+            (λ l. counts.items ≡ all_counted l.replica.list)) }
+    {
+        let mut guard = self.guarded.lock(rt);
+        guard.audit(pass);
+        guard.documents()
     }
 
     /// The text of a document, unsettled operations included. An error is out of memory (1). Costs

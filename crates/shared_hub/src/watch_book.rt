@@ -1,5 +1,6 @@
 //! What a session watches of a hub, and of what it is to be told.
-ghost use Rattle.std.specs.Prelude.{◌≡◌, ◌≤◌, ◌⊎◌, ℕ, true, false, length, None, Some, IfOk, IfSome, OnOk};
+ghost use Rattle.std.specs.Prelude.{◌≡◌, ◌≤◌, ◌⊎◌, ◌↔◌, ℕ, true, false, length, [], None, Some};
+ghost use Rattle.std.specs.Prelude.{IfOk, IfSome, IsTrue, OnOk};
 ghost use Rattle.shared_hub.specs.WatchingSeveral.{LooksOn, is_among, is_watched};
 
 use run_list::RunSlice;
@@ -82,7 +83,9 @@ impl WatchBook {
     }
 
     /// Whether the session was told of all that is settled up to this length of the list. Constant.
-    pub fn has_told(&self, settled: usize) -> bool {
+    pub fn has_told(&self, settled: usize) -> bool
+        ensures { IsTrue result ↔ ((settled ≤ self.now.looked) × (self.now.due ≡ [])) }
+    {
         settled <= self.looked && self.due.is_empty()
     }
 

@@ -2,4 +2,8 @@ pub mod PutLemmas
 pub mod ReadLemmas
 pub mod DraftLemmas
 pub mod SpaceLemmas
+pub mod ParagraphLemmas
+pub mod ParagraphTextLemmas
+pub mod HtmlParagraphLemmas
+pub mod MarkdownParagraphLemmas
 pub mod MarkdownLemmas

@@ -21,7 +21,7 @@ use Rattle.span_export.specs.Reading.{Spot, plain, inside_tag, address, read_mar
 use Rattle.span_export.proofs.ReadLemmas.{after13, after39, after34, after62, after60, after38, after0}
 
 -- a reader at this spot takes some of what stands first, and is then at the spot again
-abbrev Gives : Spot → List ℕ → List ℕ → Type 0
+abbrev pub Gives : Spot → List ℕ → List ℕ → Type 0
 Gives spot written taken = (rest : List ℕ) → read_markdown spot (written ++ rest) ≡ taken ++ read_markdown spot rest
 
 -- by a test
@@ -144,7 +144,7 @@ byte_in_address b =
     rw (n92, n62) refl))))
 
 -- what stands one after the other
-both : (spot : Spot) (a b x y : List ℕ) → Gives spot a x → Gives spot b y → Gives spot (a ++ b) (x ++ y)
+pub both : (spot : Spot) (a b x y : List ℕ) → Gives spot a x → Gives spot b y → Gives spot (a ++ b) (x ++ y)
 both spot a b x y p q rest =
     rw (append_assoc a b rest, append_assoc x y (read_markdown spot rest)) (p (b ++ rest) ∙ ap (λ l. x ++ l) (q rest))
 
@@ -187,23 +187,23 @@ silent_stars true false rest = refl
 silent_stars false true rest = refl
 silent_stars false false rest = refl
 
-silent_separator : (wanted : Bool) → Gives plain (if_wanted wanted separator) []
+pub silent_separator : (wanted : Bool) → Gives plain (if_wanted wanted separator) []
 silent_separator wanted = silent_if wanted separator (λ rest. refl)
 
 -- what was written from here to there is read as this text
-abbrev Shows : Written → Written → List ℕ → Type 0
+abbrev pub Shows : Written → Written → List ℕ → Type 0
 Shows from to taken = (new : List ℕ) × ((to.bytes ≡ from.bytes ++ new) × Gives plain new taken)
 
 -- bytes that are read as this text
-shows : (w : Written) (bytes : List ℕ) (before : Before) (taken : List ℕ) → Gives plain bytes taken → Shows w (wrote bytes before w) taken
+pub shows : (w : Written) (bytes : List ℕ) (before : Before) (taken : List ℕ) → Gives plain bytes taken → Shows w (wrote bytes before w) taken
 shows w bytes before taken gives = (bytes, (refl, gives))
 
 -- nothing written
-stays : (w : Written) → Shows w w []
+pub stays : (w : Written) → Shows w w []
 stays w = ([], (sym (append-nil w.bytes), λ rest. refl))
 
 -- what was written one after the other
-then_shows : (a b c : Written) (x y : List ℕ) → Shows a b x → Shows b c y → Shows a c (x ++ y)
+pub then_shows : (a b c : Written) (x y : List ℕ) → Shows a b x → Shows b c y → Shows a c (x ++ y)
 then_shows a b c x y p q =
     (p.0 ++ q.0, (q.1.0 ∙ ap (λ l. l ++ q.0) p.1.0 ∙ append_assoc a.bytes p.0 q.0, both plain p.0 q.0 x y p.1.1 q.1.1))
 
@@ -274,7 +274,7 @@ shows_tags : (bytes : List ℕ) (w : Written) → Gives plain bytes [] → Shows
 shows_tags [] w silent = stays w
 shows_tags (b ∷ bs) w silent = shows w (b ∷ bs) Tag [] silent
 
-shows_span : (s : Span) (w : Written) → Shows w (add_span s w) (encode_utf8_all s.text)
+pub shows_span : (s : Span) (w : Written) → Shows w (add_span s w) (encode_utf8_all s.text)
 shows_span s w =
     let opening = flat_map open_comment s.marks.comments ++ open_bracket s.marks.link in
     let closing = close_bracket s.marks.link ++ flat_map close_comment s.marks.comments in

@@ -12,7 +12,7 @@ use Rattle.span_export.specs.Html.{comment_name, open_comment, close_comment, op
 use Rattle.span_export.specs.Reading.{Place, text, tag, read_html, text_of}
 
 -- a reader at this place takes some of what stands first, and is then in the place again
-abbrev Gives : Place → List ℕ → List ℕ → Type 0
+abbrev pub Gives : Place → List ℕ → List ℕ → Type 0
 Gives place written taken = (rest : List ℕ) → read_html place (written ++ rest) ≡ taken ++ read_html place rest
 
 -- by a test of two numbers
@@ -78,7 +78,7 @@ both : (place : Place) (a b x y : List ℕ) → Gives place a x → Gives place 
 both place a b x y p q rest = rw (append_assoc a b rest, append_assoc x y (read_html place rest)) (p (b ++ rest) ∙ ap (λ l. x ++ l) (q rest))
 
 -- the same of what each element of a list gives
-each : {X : Type 0} (place : Place) (f g : X → List ℕ) → ((x : X) → Gives place (f x) (g x)) → (xs : List X) → Gives place (flat_map f xs) (flat_map g xs)
+pub each : {X : Type 0} (place : Place) (f g : X → List ℕ) → ((x : X) → Gives place (f x) (g x)) → (xs : List X) → Gives place (flat_map f xs) (flat_map g xs)
 each place f g one [] rest = refl
 each place f g one (x ∷ xs) rest = both place (f x) (flat_map f xs) (g x) (flat_map g xs) (one x) (each place f g one xs) rest
 
@@ -156,7 +156,7 @@ silent_close_tags m =
     (silent_both (close_link m.link) comments (silent_close_link m.link) (silent_each close_comment silent_close_comment m.comments)))
 
 -- a span gives its text
-span_text : (s : Span) → Gives text (html_span s) (encode_utf8_all s.text)
+pub span_text : (s : Span) → Gives text (html_span s) (encode_utf8_all s.text)
 span_text s rest =
     let shown = html_text (encode_utf8_all s.text) in
     both text (open_tags s.marks) (shown ++ close_tags s.marks) [] (encode_utf8_all s.text ++ []) (silent_open_tags s.marks)

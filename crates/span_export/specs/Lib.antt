@@ -5,5 +5,8 @@ pub mod Html
 pub mod Draft
 pub mod MarkdownText
 pub mod Markdown
+pub mod Paragraphs
+pub mod HtmlParagraphs
+pub mod MarkdownParagraphs
 pub mod Reading
 pub mod Exported

@@ -1,29 +1,16 @@
-//! A document's spans as Markdown.
-ghost use Rattle.std.specs.Prelude.{◌≡◌, ◌++◌, IfOk, OnOk, codes, flat_map};
-ghost use Rattle.span_export.specs.Html.{close_comment};
-ghost use Rattle.span_export.specs.Html.{open_comment};
-ghost use Rattle.span_export.specs.Markdown.{stars, add_text, add_tags, address_byte};
-ghost use Rattle.span_export.specs.Markdown.{open_bracket, close_bracket, add_span, add_spans};
-ghost use Rattle.span_export.specs.Markdown.{markdown_page};
-ghost use Rattle.span_export.specs.Putting.{Puts};
+//! A document's spans as Markdown, with breaks of the line.
+ghost use Rattle.std.specs.Prelude.{◌≡◌, ◌++◌, IfOk, OnOk, codes};
+ghost use Rattle.span_export.specs.Markdown.{add_spans, markdown_page};
 ghost use Rattle.span_export.specs.Reading.{plain, read_markdown, text_of};
 
-use crate::before::Before;
-use crate::comment_tags::{put_close_comments, put_open_comments};
 use crate::draft::Draft;
-use crate::emphasis::add_starred;
-use crate::markdown_text::add_characters;
-use crate::putting::put;
-use crate::web_address::is_tame;
-use op_model::{Marks, Span, Url};
+use crate::markdown_span::add_span;
+use op_model::Span;
 use std::alloc::{AllocError, Global};
 
-/// Spans as Markdown (CommonMark): stars for strong text and emphasis, `[text](<address>)` for a
-/// link that is tame (no scheme, `http`, `https` or `mailto`; any other is shown as text alone),
-/// and for each comment a tag `<span data-comment>` with its UUID. Line feeds are breaks of the
-/// line. White space at the ends of a span stands outside of its stars, and an empty tag keeps
-/// apart stars that would run together. An error is out of memory (1). The time is that of the
-/// page's length.
+/// Spans as Markdown (CommonMark), in one paragraph: line feeds are breaks of the line. A span is
+/// written as `add_span` says. An error is out of memory (1). The time is that of the page's
+/// length.
 pub(crate) fn markdown(alloc: Global, spans: &[Span]) -> Result<Vec<u8>, AllocError>
     ensures page { IfOk result (λ page. page.items ≡ markdown_page spans.now) }
     ensures shows { IfOk result (λ page.
@@ -40,120 +27,6 @@ fn add_spans(alloc: Global, spans: &[Span], draft: &mut Draft) -> Result<(), All
 {
     for span in spans {
         add_span(alloc, span, draft)?;
-    }
-    Ok(())
-}
-
-/// Writes a span: its text within its comments and its link.
-fn add_span(alloc: Global, span: &Span, draft: &mut Draft) -> Result<(), AllocError>
-    ensures { OnOk result (draft.new ≡ add_span span.now draft.old) }
-{
-    let opening = opening(alloc, &span.marks)?;
-    let closing = closing(alloc, &span.marks)?;
-    add_tags(&opening, draft)?;
-    add_text(span, draft)?;
-    add_tags(&closing, draft)
-}
-
-/// What stands before a span's text.
-fn opening(alloc: Global, marks: &Marks) -> Result<Vec<u8>, AllocError>
-    ensures { IfOk result (λ tags.
-        tags.items ≡ flat_map open_comment marks.now.comments ++ open_bracket marks.now.link) }
-{
-    let mut out = Vec::new(alloc);
-    put_open_comments(marks.comments.as_slice(), &mut out)?;
-    put_open_bracket(&marks.link, &mut out)?;
-    Ok(out)
-}
-
-/// What stands after a span's text.
-fn closing(alloc: Global, marks: &Marks) -> Result<Vec<u8>, AllocError>
-    ensures { IfOk result (λ tags.
-        tags.items ≡ close_bracket marks.now.link ++ flat_map close_comment marks.now.comments) }
-{
-    let mut out = Vec::new(alloc);
-    put_close_bracket(&marks.link, &mut out)?;
-    put_close_comments(marks.comments.as_slice(), &mut out)?;
-    Ok(out)
-}
-
-/// Writes tags and brackets, where there are some.
-fn add_tags(bytes: &[u8], draft: &mut Draft) -> Result<(), AllocError>
-    ensures { OnOk result (draft.new ≡ add_tags bytes.now draft.old) }
-{
-    if bytes.is_empty() {
-        return Ok(());
-    }
-    draft.write(bytes, Before::Tag)
-}
-
-/// The stars around text that is strong, emphasised, or both.
-fn stars(strong: bool, em: bool) -> &'static [u8]
-    ensures { result.now ≡ stars strong em }
-{
-    match (strong, em) {
-        (true, true) => b"***",
-        (true, false) => b"**",
-        (false, true) => b"*",
-        (false, false) => b"",
-    }
-}
-
-/// Writes a span's text, between stars where it is strong or emphasised.
-fn add_text(span: &Span, draft: &mut Draft) -> Result<(), AllocError>
-    ensures { OnOk result (draft.new ≡ add_text span.now draft.old) }
-{
-    let Marks { strong, em, .. } = span.marks;
-    if strong || em {
-        add_starred(stars(strong, em), span.text.as_slice(), draft)
-    } else {
-        add_characters(span.text.as_slice(), draft)
-    }
-}
-
-/// Puts the bracket before a link's text, where the link may lead there.
-fn put_open_bracket(link: &Option<Url>, out: &mut Vec<u8>) -> Result<(), AllocError>
-    ensures { Puts result out.old out.new (open_bracket link.now) }
-{
-    match link {
-        Some(url) if is_tame(url.as_str()) => put(b"[", out),
-        _ => Ok(()),
-    }
-}
-
-/// Puts the bracket after a link's text, and where the link leads.
-fn put_close_bracket(link: &Option<Url>, out: &mut Vec<u8>) -> Result<(), AllocError>
-    ensures { Puts result out.old out.new (close_bracket link.now) }
-{
-    match link {
-        Some(url) if is_tame(url.as_str()) => {
-            put(b"](<", out)?;
-            put_address(url.as_str().as_bytes(), out)?;
-            put(b">)", out)
-        }
-        _ => Ok(()),
-    }
-}
-
-/// Puts a byte of an address as it stands between `<` and `>`.
-fn put_address_byte(byte: u8, out: &mut Vec<u8>) -> Result<(), AllocError>
-    ensures { Puts result out.old out.new (address_byte byte) }
-{
-    match byte {
-        0 => put(b"&#0;", out),
-        b'\n' => put(b"&#10;", out),
-        b'\r' => put(b"&#13;", out),
-        b'\\' | b'<' | b'>' | b'&' => put(&[b'\\', byte], out),
-        _ => put(&[byte], out),
-    }
-}
-
-/// Puts an address as it stands between `<` and `>`.
-fn put_address(bytes: &[u8], out: &mut Vec<u8>) -> Result<(), AllocError>
-    ensures { Puts result out.old out.new (flat_map address_byte bytes.now) }
-{
-    for byte in bytes {
-        put_address_byte(*byte, out)?;
     }
     Ok(())
 }

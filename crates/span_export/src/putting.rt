@@ -3,6 +3,10 @@ ghost use Rattle.span_export.specs.Putting.{Puts, if_wanted};
 
 use std::alloc::AllocError;
 
+/// A page with paragraphs that has more bytes than this takes no more text: 268,435,456, which only
+/// the tags of marks over very many lines reach.
+pub(crate) const MOST_BYTES: usize = 268_435_456;
+
 /// Puts bytes after what is there.
 pub(crate) fn put(bytes: &[u8], out: &mut Vec<u8>) -> Result<(), AllocError>
     ensures { Puts result out.old out.new bytes.now }

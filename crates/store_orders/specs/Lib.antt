@@ -1,3 +1,4 @@
 pub mod Ends
 pub mod Performed
 pub mod Shown
+pub mod Past

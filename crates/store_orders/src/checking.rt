@@ -2,7 +2,7 @@
 //! root slots say is one line.
 ghost use Rattle.std.specs.Prelude.{◌≡◌, ℕ, IfOk, IfErr};
 ghost use Rattle.file_listing.specs.Checked.{said_check};
-ghost use Rattle.file_listing.specs.Listing.{room_of};
+ghost use Rattle.list_counts.specs.Documents.{room_of};
 ghost use Rattle.group_commit.specs.Opening.{IsLookedAt};
 ghost use Rattle.root_reports.specs.Reports.{report_of};
 ghost use Rattle.store_orders.specs.Shown.{Refuses, Shows};

@@ -21,7 +21,7 @@ use std::alloc::Global;
 use std::io::{Read, Write};
 
 /// The number of the session that is served alone: its edits are the steps of this one.
-const SESSION: u64 = 1;
+pub(crate) const SESSION: u64 = 1;
 
 /// Does what an order asks for, and gives the disk, with what ended it if that is a refusal.
 pub fn perform<D: Disk, R: Read + Drop, W: Write>(

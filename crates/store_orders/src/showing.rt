@@ -7,6 +7,7 @@ ghost use Rattle.file_listing.specs.Listing.{said_listing};
 ghost use Rattle.recovery.specs.Faults.{number_of as number_of_open};
 ghost use Rattle.span_export.specs.Exported.{exported};
 ghost use Rattle.store_orders.specs.Ends.{number_of};
+ghost use Rattle.store_orders.specs.Past.{RefusesPast, ShowsPast, TellsPast};
 ghost use Rattle.store_orders.specs.Shown.{said_document, Shows};
 ghost use Rattle.store_orders.specs.declared.fault.Fault.TheVariants.{Memory};
 
@@ -72,6 +73,20 @@ pub fn show_in<D: Disk>(alloc: Global, disk: D, doc: u32, form: Form) -> Shown<D
     }
 }
 
+/// Shows a document in a form for other programs as it was when it had `rev` operations, the first
+/// ones in the file's list, as `show` does; `Field` (4) if it has fewer.
+pub fn show_past<D: Disk>(alloc: Global, disk: D, doc: u32, rev: u32, form: Form) -> Shown<D>
+    ensures { ShowsPast D.DiskFacts doc rev form disk result.lines result.disk }
+{
+    match recovery::open(alloc, disk) {
+        Ok(Opened { replica, store }) => Shown {
+            disk: store.into_disk(),
+            lines: document_past(alloc, &replica, doc, rev, form),
+        },
+        Err(fault) => unopened(fault),
+    }
+}
+
 /// Nothing is shown of a file that can't be opened.
 pub(crate) fn unopened<D: Disk>(fault: OpenFault<D>) -> Shown<D>
     ensures lines { IsErrAnd result.lines (λ told. number_of told ≡ number_of_open fault.cause) }
@@ -115,6 +130,25 @@ fn document_in(alloc: Global, replica: &Replica, doc: u32, form: Form) -> Result
     Ok(bytes)
 }
 
+/// A document as it was, in a form for other programs. `Memory` (1) where a growth was refused, and
+/// `Field` (4) if it has fewer operations.
+fn document_past(
+    alloc: Global,
+    replica: &Replica,
+    doc: u32,
+    rev: u32,
+    form: Form,
+) -> Result<Vec<u8>, Fault>
+    ensures ok { IfOk result (λ bytes. TellsPast replica.now.list doc rev form bytes.items) }
+    ensures err { IfErr result (RefusesPast replica.now.list doc rev) }
+{
+    let Some(spans) = replica.spans_at(doc, rev as usize)? else {
+        return Err(Fault::Field);
+    };
+    let bytes = export(alloc, form, &spans)?;
+    Ok(bytes)
+}
+
 /// Prints the text and the spans of a document in a file.
 pub fn dump<R: Files<File = File> + AllocGlobal, W: Write>(
     rt: &R,
@@ -144,7 +178,10 @@ pub fn export_from<R: Files<File = File> + AllocGlobal, W: Write>(
     output: &mut W,
 ) -> Result<(), Fault> {
     let disk = opened(rt, order.file)?;
-    let Shown { disk, lines } = show_in(rt.alloc(), disk, order.doc, order.form);
+    let Shown { disk, lines } = match order.at_rev {
+        Some(rev) => show_past(rt.alloc(), disk, order.doc, rev, order.form),
+        None => show_in(rt.alloc(), disk, order.doc, order.form),
+    };
     drop(disk);
     print(&lines?, output)
 }

@@ -50,7 +50,7 @@ const SPANS_BA: &str = "{\"ok\":true,\"rev\":2,\"spans\":[{\"text\":\"ba\"}]}";
 const TEXT_BA: &str = "{\"ok\":true,\"rev\":2,\"text\":\"ba\"}";
 
 /// What is answered to the session that edits while the other one's commit is under way.
-const OF_THE_SECOND: [(&str, &str); 11] = [
+const OF_THE_SECOND: [(&str, &str); 12] = [
     (INSERT_B, REV_2),
     (TEXT, TEXT_BA),
     (SPANS, SPANS_BA),
@@ -74,10 +74,15 @@ const OF_THE_SECOND: [(&str, &str); 11] = [
         "{\"op\":\"export\",\"doc\":1,\"to\":\"text\"}",
         "{\"ok\":true,\"rev\":2,\"text\":\"ba\"}",
     ),
+    ("{\"op\":\"documents\"}", DOCUMENT_BA),
     (TWO_AT_ONCE, "{\"ok\":true,\"rev\":4}"),
     (SECOND_REFUSED, SECOND_IS_REFUSED),
     (STOP, STOPPED),
 ];
+
+/// The one document, which the daemon's own replica wrote.
+const DOCUMENT_BA: &str =
+    "{\"documents\":[{\"chars\":2,\"doc\":1,\"ops\":2,\"writers\":[\"00000000-0000-4000-8000-000000000001\"]}],\"ok\":true}";
 
 /// A character comes and goes in one line, at a place that lasts.
 const TWO_AT_ONCE: &str =
@@ -89,8 +94,13 @@ const SECOND_REFUSED: &str =
 
 const SECOND_IS_REFUSED: &str = "{\"at\":1,\"code\":5,\"error\":\"range\",\"ok\":false}";
 
-/// An edit, and then a stop with an edit behind it, which is refused.
-const INSERT_AND_STOP: [(&str, &str); 2] = [
+/// The room of a file without operations.
+const EMPTY_ROOM: &str =
+    "{\"bytes\":0,\"bytes_limit\":1073741824,\"documents\":0,\"documents_limit\":1024,\"ok\":true,\"operations\":0,\"operations_limit\":16777216,\"replicas\":0,\"replicas_limit\":16,\"steps\":0,\"steps_limit\":1048576}";
+
+/// The room, an edit, and then a stop with an edit behind it, which is refused.
+const INSERT_AND_STOP: [(&str, &str); 3] = [
+    ("{\"op\":\"room\"}", EMPTY_ROOM),
     (INSERT_A, REV_1),
     (STOP_AND_INSERT, STOPPED_AND_STOPPING),
 ];

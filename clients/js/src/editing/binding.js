@@ -9,6 +9,7 @@
  */
 
 import { answerOnce, hasMade, newToken } from "../again.js";
+import { FAILED } from "../refusal_table.js";
 import { Ended, Stale } from "../refusals.js";
 import { charactersOf } from "./edits.js";
 import { fitted } from "./fitting.js";
@@ -275,7 +276,7 @@ export class Binding {
     if (this.#isGone) return;
     if (edit.status === "fulfilled") return this.#finish(fields, edit.value, asked);
     // One that couldn't be sent leaves open what became of the one before.
-    if (!(edit.reason instanceof Ended)) this.#unsure = edit.reason.number === 9;
+    if (!(edit.reason instanceof Ended)) this.#unsure = edit.reason.number === FAILED;
     else if (edit.reason.wasSent) this.#unsure = true;
     if (!(edit.reason instanceof Stale)) throw edit.reason;
     const told = await this.#toldOr(known, asked.status === "fulfilled" ? asked.value : Promise.reject(asked.reason));

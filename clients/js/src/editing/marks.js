@@ -1,5 +1,6 @@
 /** The marks that a character has, as an object of just the kinds that hold, and how edits change them. */
 
+import { URL_BYTES } from "../limit_table.js";
 import { EM, STRONG, comment, link } from "../marks.js";
 import { HALF } from "../places.js";
 
@@ -39,7 +40,7 @@ export function held({ strong, em, link: url, comments }, knows) {
 export function isHeldUrl(url) {
   if (typeof url !== "string" || HALF.test(url)) return false;
   const { length } = new TextEncoder().encode(url);
-  return length >= 1 && length <= 1024;
+  return length >= 1 && length <= URL_BYTES;
 }
 
 /**

@@ -1,7 +1,7 @@
 // What a program in TypeScript may write, and what it may not: `@ts-expect-error` is an error itself if the line below it is none.
 
 import { EM, Following, Reading, STRONG, Session, Stale, applied, connect, delta, follow, init, link, open, watch, watchMany } from "peritext";
-import type { Change, Edit, EditOptions, Form, Found, Lasting, Mark, PlacedEdit, Reset, Settled, Span, Step, Transport } from "peritext";
+import type { Change, DocumentCounts, Edit, EditOptions, Form, Found, Lasting, Mark, PlacedEdit, Reset, Room, Settled, Span, Step, Transport } from "peritext";
 import { bind as bindText } from "peritext/codemirror";
 import { bind } from "peritext/prosemirror";
 import { bind as bindContents } from "peritext/quill";
@@ -30,6 +30,9 @@ export async function edits(signal: AbortSignal): Promise<number> {
   await document.action(placed);
   const places: (number | null)[] = await document.places(anchors, rev, { signal });
   const { peers, sessions } = await session.peers({ signal });
+  const counted: DocumentCounts[] = await session.documents({ signal });
+  const room: Room = await session.room({ signal });
+  const free: number = room.bytesLimit - room.bytes + counted.flatMap(({ writers }) => writers).length;
   // @ts-expect-error: a text is no number, nor any place that lasts
   await document.insert("0", "x");
   // @ts-expect-error: a reading counts in its own text
@@ -45,7 +48,7 @@ export async function edits(signal: AbortSignal): Promise<number> {
   // @ts-expect-error: a place stays with one of two neighbours
   await document.anchor(1, "left");
   await session.close();
-  return peers.length + sessions + places.length + (mark ? 1 : 0);
+  return peers.length + sessions + places.length + free + (mark ? 1 : 0);
 }
 
 export async function reads(port: number): Promise<string> {
@@ -70,6 +73,9 @@ export async function finds(port: number, signal: AbortSignal): Promise<string> 
   const indexes: number[] = (await document.read()).find("fox");
   const form: Form = "markdown";
   const page: string = await document.export(form);
+  await document.export(form, { breaks: true, signal });
+  // @ts-expect-error: it is true or false
+  await document.export(form, { breaks: "yes" });
   // @ts-expect-error: there is no such form
   await document.export("pdf");
   // @ts-expect-error: it is a list of numbers, or all

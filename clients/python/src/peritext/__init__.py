@@ -15,6 +15,7 @@
 
 from .action import Action, Lasting
 from .changing import Changes, Delete, Insert, Retain, Step, applied
+from .counting import DocumentCounts, Room
 from .daemon import connect
 from .document import Document, Found, Reading
 from .file import init, open
@@ -33,6 +34,7 @@ __all__ = [
     "Delete",
     "Delta",
     "Document",
+    "DocumentCounts",
     "EM",
     "Ended",
     "Follow",
@@ -49,6 +51,7 @@ __all__ = [
     "Refused",
     "Reset",
     "Retain",
+    "Room",
     "STRONG",
     "Session",
     "Settled",

@@ -7,8 +7,10 @@ from typing import TYPE_CHECKING, Any, Iterable, Iterator, Literal, Mapping, Nam
 from uuid import UUID
 
 from .again import NEVER
+from .limit_table import LINE_BYTES, TAKEN_CHARACTERS
 from .lines import line_of
 from .marks import Mark
+from .refusal_table import ONE_LINE
 from .rules import LONGEST, MANY, broken, is_lasting, is_long, is_whole, lasting_of
 
 if TYPE_CHECKING:
@@ -20,13 +22,9 @@ Fields = Mapping[str, Any]
 Lasting = NewType("Lasting", str)
 # A place of an edit: how many characters are before it, or a place that lasts.
 Place = Union[int, Lasting, Literal["start", "end"]]
-# How many bytes a line may have.
-LINE = 65_536
 # What stands around the edits of a line, as long as it can be: a call that is sent again is parted as it was.
 AROUND = {"op": "edits", "doc": NEVER, "rev": NEVER, "token": f"urn:uuid:{UUID(int=0)}", "edits": []}
-ROOM = LINE - len(line_of(AROUND))
-# How many characters a line takes away, where edits may be parted: in any file so many can wait together for the disk.
-TAKEN = 2_048
+ROOM = LINE_BYTES - len(line_of(AROUND))
 # A number that no place of a text has: one whose character isn't known is refused as such a number is (5).
 BEYOND = 2**31
 
@@ -227,9 +225,9 @@ def lines_of(pieces: Iterable[Piece], parted: bool) -> Iterator[list[Piece]]:
     for piece in pieces:
         # A comma and a space stand between two.
         size, count = len(line_of(piece.edit)) + piece.more + 1, _taken_by(piece.edit)
-        if line and (len(line) == MANY or size > room or (parted and taken + count > TAKEN)):
+        if line and (len(line) == MANY or size > room or (parted and taken + count > TAKEN_CHARACTERS)):
             if not parted:
-                raise ValueError(f"one line takes {MANY:,} edits, of at most 256 characters each, and {LINE:,} bytes: make several actions, or let it be parted")
+                raise ValueError(ONE_LINE)
             yield line
             line, room, taken = [], ROOM, 0
         line.append(piece)

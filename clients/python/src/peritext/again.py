@@ -6,11 +6,13 @@ from typing import Any, Callable, Mapping
 from uuid import uuid4
 
 from .answers import answer_of
+from .limit_table import WHOLE
 from .refusals import Refused, Stale
+from .request_table import ONE
 
-EDITS = ("insert", "delete", "mark", "unmark", "edits")
+EDITS = (*ONE, "edits")
 # No document has so many operations: an edit that names this `rev` is made never, and answered only if it was made before.
-NEVER = 2**32 - 1
+NEVER = WHOLE
 
 
 def is_edit(request: Mapping[str, Any]) -> bool:

@@ -5,6 +5,7 @@ from __future__ import annotations
 import json
 from typing import Any, Callable, Mapping
 
+from .counting import PARTS
 from .refusals import Refused, refused
 
 # What each field has to be.
@@ -139,6 +140,11 @@ def _one_of(documents: Any) -> Callable[[Any], bool]:
     return lambda value: _is_count(value) and (documents == "all" or value in documents)
 
 
+def _are_documents(value: Any) -> bool:
+    """Whether each has its fields, and their numbers rise."""
+    return _all(_DOCUMENT)(value) and _rising_from(1)([it["doc"] for it in value])
+
+
 def _all(fields: Fields) -> Callable[[Any], bool]:
     """Whether it is a list of objects with these fields."""
 
@@ -149,6 +155,7 @@ def _all(fields: Fields) -> Callable[[Any], bool]:
 
 
 _PEER: Fields = {"has": _is_number, "lacks": _is_number, "replica": _is_text}
+_DOCUMENT: Fields = {"doc": _is_count, "chars": _is_number, "ops": _is_count, "writers": _are_texts}
 _MARKS: Fields = {"strong": _is_flag, "em": _is_flag, "link": _is_text, "comments": _are_texts}
 # The fields of a step, for each of its forms.
 _STEPS: dict[frozenset[str], Fields] = {
@@ -174,6 +181,8 @@ _FIELDS: dict[str, Fields] = {
     "places": {"rev": _is_number, "places": _are_places},
     "status": {"applied": _is_number, "settled": _is_number, "state": _is_text},
     "peers": {"peers": _all(_PEER), "sessions": _is_number},
+    "documents": {"documents": _are_documents},
+    "room": {name: _is_number for part in PARTS for name in (part, f"{part}_limit")},
     "export": {"rev": _is_number, "text": _is_text},
     "watch": _EDITED,
 }

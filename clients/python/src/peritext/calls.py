@@ -108,8 +108,9 @@ class Calls:
         [answer] = yield [Asked({"op": "spans", "doc": self.number})]
         return [Span.of(span) for span in answer["spans"]]
 
-    def export(self, form: str) -> Call[str]:
-        [answer] = yield [Asked({"op": "export", "doc": self.number, "to": form})]
+    def export(self, form: str, breaks: bool) -> Call[str]:
+        # An earlier program knows no `breaks`.
+        [answer] = yield [Asked({"op": "export", "doc": self.number, "to": form, **({"breaks": breaks} if breaks else {})})]
         return str(answer["text"])
 
     def find(self, text: str, start: int) -> Call[Found]:

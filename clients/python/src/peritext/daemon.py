@@ -14,6 +14,7 @@ from .answers import NoAnswer, answer_of
 from .following import Follow
 from .lines import line_of
 from .ports import HOST, PATIENCE, PAUSE
+from .refusal_table import STEPS
 from .refusals import NoDaemon, Refused
 from .seconds import retry_of, timeout_of
 from .session import Owed, Session
@@ -26,8 +27,6 @@ LONGEST = 65_536
 
 # What a session asks first.
 STATUS = {"op": "status"}
-# The refusal of a daemon that is about to open its file anew.
-STEPS = 10
 # Seconds for which a daemon whose connection ended is looked for again.
 RETRY = 10.0
 

@@ -109,9 +109,15 @@ class Document:
         """The text in runs of equal marks."""
         return run(self.session, self._calls.spans())
 
-    def export(self, form: str) -> str:
-        """The text as a page, with its marks: `html`, `markdown`, or `text` without them."""
-        return run(self.session, self._calls.export(form))
+    def export(self, form: str, breaks: bool = False) -> str:
+        """The text as a page, with its marks: `html`, `markdown`, or `text` without them. Each line of it is a paragraph, an empty one too; with
+        `breaks` it has breaks of the line instead.
+
+        >>> _ = document.insert(0, "one\\ntwo ")
+        >>> document.export("markdown")[:8], document.export("markdown", breaks=True)[:8]
+        ('one\\n\\ntwo', 'one\\\\\\ntwo')
+        """
+        return run(self.session, self._calls.export(form, breaks))
 
     def find(self, text: str, start: int = 0) -> Found:
         """All places from `start` on at which a text of 1 to 256 characters stands, overlapping ones too, and the `rev` of the text in which it was

@@ -5,76 +5,18 @@ from __future__ import annotations
 import re
 from typing import Any, Callable, Mapping
 
+from . import limit_table
+from .request_table import ALL, BESIDE, FORMS, KINDS, NEEDED, ONE, OPTIONAL, PLACE_FIELDS, RULES, SIDES
+
 # How many characters one edit may put in, or take away.
-LONGEST = 256
+LONGEST = limit_table.EDIT_CHARACTERS
 # How many places one request may ask for.
-MOST = 256
+MOST = limit_table.PLACES
 # How many edits one request may make.
-MANY = 1_024
+MANY = limit_table.EDITS
 # How many places one answer tells where a text stands, and how many documents one watch may have.
-FOUND = 1_024
-WATCHED = 1_024
-# The fields that a request needs, and those that a mark needs beside them, or a watch of many documents in their place.
-NEEDED = {
-    "insert": "doc at text",
-    "delete": "doc at count",
-    "mark": "doc from to kind",
-    "unmark": "doc from to kind",
-    "edits": "doc edits",
-    "text": "doc",
-    "spans": "doc",
-    "changes": "doc since",
-    "anchors": "doc at side",
-    "places": "doc anchors",
-    "find": "doc text",
-    "export": "doc to",
-    "watch": "doc",
-}
-BESIDE = {
-    "mark link": "url",
-    "mark comment": "id",
-    "unmark comment": "id",
-    "watch docs": "docs",
-}
-# The fields that an edit may have, and a search.
-OPTIONAL = {
-    "insert": "rev token",
-    "delete": "rev token",
-    "mark": "rev token",
-    "unmark": "rev token",
-    "edits": "rev token",
-    "find": "from",
-}
-# The requests that may be made by one of `edits`, and the fields that stand beside the list.
-ONE = ("insert", "delete", "mark", "unmark")
-ALL = ("doc", "rev", "token")
-# The fields of an edit that are places of the text.
-PLACES = ("at", "from", "to")
-# What each field has to be, of any request, or of one in particular.
-RULES = {
-    "doc": "a whole number from 1 to 4294967295",
-    "count": "a whole number from 1 to 4294967295",
-    "at": "a whole number from 0 to 4294967295, or a place that lasts",
-    "from": "a whole number from 0 to 4294967295, or a place that lasts",
-    "to": "a whole number from 0 to 4294967295, or a place that lasts",
-    "rev": "a whole number from 0 to 4294967295",
-    "since": "a whole number from 0 to 4294967295",
-    "text": "a text of at least one character",
-    "kind": "strong, em, link or comment",
-    "url": "a text of 1 to 1024 bytes",
-    "id": "a UUID",
-    "token": "a UUID other than the nil one",
-    "anchors at": "a list of 1 to 256 whole numbers from 0 to 4294967295",
-    "side": "previous or next",
-    "anchors": "a list of 1 to 256 places that last, each a text as the request `anchors` gives it",
-    "edits": "a list of 1 to 1024 edits, each an insert, delete, mark or unmark without `doc`, `rev` and `token`",
-    "find text": "a text of 1 to 256 characters",
-    "find from": "a whole number from 0 to 4294967295",
-    "export to": "text, markdown or html",
-    "docs": "a list of 1 to 1024 whole numbers from 1 to 4294967295, or all",
-}
-_KINDS = ("strong", "em", "link", "comment")
-_FORMS = ("text", "markdown", "html")
+FOUND = limit_table.FOUND
+WATCHED = limit_table.WATCHED
 _UUID = re.compile(r"(urn:uuid:|\{)?[0-9a-f]{8}(-?[0-9a-f]{4}){3}-?[0-9a-f]{12}\}?", re.IGNORECASE)
 _NIL = re.compile(r"[0{}-]*")
 _BESIDE_CHARACTER = re.compile(r"[ab]([1-9][0-9]{0,14})@([0-9a-fA-F]{8}(?:-[0-9a-fA-F]{4}){3}-[0-9a-fA-F]{12})")
@@ -117,13 +59,13 @@ def is_long(request: Mapping[str, Any]) -> bool:
 
 def is_whole(value: Any, least: int) -> bool:
     # True and False are no numbers here.
-    return type(value) is int and least <= value < 2**32
+    return type(value) is int and least <= value <= limit_table.WHOLE
 
 
 def is_lasting(value: Any) -> bool:
     """Whether it is the text of a place that lasts."""
     beside = _BESIDE_CHARACTER.fullmatch(value) if isinstance(value, str) else None
-    return value in ("start", "end") if beside is None else int(beside[1]) < 2**48 and _is_token(beside[2])
+    return value in ("start", "end") if beside is None else int(beside[1]) <= limit_table.COUNTER and _is_token(beside[2])
 
 
 def lasting_of(edit: Mapping[str, Any]) -> dict[str, str]:
@@ -132,7 +74,7 @@ def lasting_of(edit: Mapping[str, Any]) -> dict[str, str]:
     >>> lasting_of({"op": "mark", "doc": 1, "from": "start", "to": 7, "kind": "em"})
     {'from': 'start'}
     """
-    return {name: edit[name] for name in PLACES if is_lasting(edit.get(name))}
+    return {name: edit[name] for name in PLACE_FIELDS if is_lasting(edit.get(name))}
 
 
 def is_placed(request: Mapping[str, Any]) -> bool:
@@ -170,7 +112,7 @@ def _is_text(value: Any) -> bool:
 
 
 def _is_url(value: Any) -> bool:
-    return _is_text(value) and len(value.encode()) <= 1024
+    return _is_text(value) and len(value.encode()) <= limit_table.URL_BYTES
 
 
 def _is_uuid(value: Any) -> bool:
@@ -206,16 +148,17 @@ _HOLDS: dict[str, Callable[[Any], bool]] = {
     "rev": _from(0),
     "since": _from(0),
     "text": _is_text,
-    "kind": lambda value: value in _KINDS,
+    "kind": lambda value: value in KINDS,
     "url": _is_url,
     "id": _is_uuid,
     "token": _is_token,
     "anchors at": lambda value: _is_some(value, MOST, _from(0)),
-    "side": lambda value: value in ("previous", "next"),
+    "side": lambda value: value in SIDES,
     "anchors": lambda value: _is_some(value, MOST, is_lasting),
     "edits": lambda value: _is_some(value, MANY, _is_edit),
     "find text": _is_sought,
     "find from": _from(0),
-    "export to": lambda value: value in _FORMS,
+    "export to": lambda value: value in FORMS,
+    "breaks": lambda value: isinstance(value, bool),
     "docs": lambda value: value == "all" or _is_some(value, WATCHED, _from(1)),
 }

@@ -10,6 +10,7 @@ from types import TracebackType
 from typing import IO, TYPE_CHECKING, Any, Iterable, Literal, NamedTuple, TypeVar
 
 from .answers import NoAnswer, answer_of
+from .counting import DocumentCounts, Room, counts_of, room_of
 from .document import Document
 from .lines import Lines, line_of
 from .peers import Connected, connected_of
@@ -154,6 +155,16 @@ class Session:
     def peers(self) -> Connected:
         """Who is connected to the daemon: its peers, with what each has and lacks, and how many sessions. Over a file it is this session alone."""
         return connected_of(self.ask(op="peers"))
+
+    def documents(self) -> list[DocumentCounts]:
+        """What is counted of each document that has operations, in rising order of their numbers. What isn't settled yet is counted, as `text` shows it.
+        It costs nothing for the characters of a document. An earlier program refuses it (3)."""
+        return counts_of(self.ask(op="documents"))
+
+    def room(self) -> Room:
+        """How much the file has of what there is a limit to, with the limits: what `peritext list` says of a file, and the steps since it was opened.
+        An earlier program refuses it (3)."""
+        return room_of(self.ask(op="room"))
 
     def stop(self) -> None:
         """Has all that was edited settled, and no more edits taken (`Refused`, 12). A daemon ends with that, for all its sessions and peers."""

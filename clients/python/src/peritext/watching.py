@@ -15,13 +15,12 @@ from typing import Any, Callable, Generic, Iterable, Literal, NamedTuple, TypeVa
 from .answers import NoAnswer, answer_of
 from .lines import Lines
 from .ports import HOST, PATIENCE, PAUSE
+from .refusal_table import BUSY
 from .refusals import Ended, NoDaemon, Refused
 from .seconds import retry_of
 
 # Bytes that are read at once.
 PART = 65_536
-# The refusal of a daemon that has no place.
-BUSY = 8
 # Seconds after which a connection is one that tells of all documents, though there is none of which it tells.
 MOMENT = 0.5
 # What is given by a watch, and the kind of a watch.

@@ -71,9 +71,10 @@ class Document:
         """The text in runs of equal marks."""
         return await self._runner.run(self._calls.spans())
 
-    async def export(self, form: str) -> str:
-        """The text as a page, with its marks: `html`, `markdown`, or `text` without them."""
-        return await self._runner.run(self._calls.export(form))
+    async def export(self, form: str, breaks: bool = False) -> str:
+        """The text as a page, with its marks: `html`, `markdown`, or `text` without them. Each line of it is a paragraph, an empty one too; with
+        `breaks` it has breaks of the line instead."""
+        return await self._runner.run(self._calls.export(form, breaks))
 
     async def find(self, text: str, start: int = 0) -> Found:
         """All places from `start` on at which a text of 1 to 256 characters stands, overlapping ones too, and the `rev` of the text in which it was

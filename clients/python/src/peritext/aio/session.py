@@ -9,6 +9,7 @@ from uuid import UUID
 from .. import daemon
 from .. import file as files
 from ..calls import Answer
+from ..counting import DocumentCounts, Room, counts_of, room_of
 from ..daemon import RETRY
 from ..file import Path
 from ..peers import Connected, connected_of
@@ -76,6 +77,16 @@ class Session:
     async def peers(self) -> Connected:
         """Who is connected to the daemon: its peers, with what each has and lacks, and how many sessions. Over a file it is this session alone."""
         return connected_of(await self.ask(op="peers"))
+
+    async def documents(self) -> list[DocumentCounts]:
+        """What is counted of each document that has operations, in rising order of their numbers. What isn't settled yet is counted, as `text` shows it.
+        It costs nothing for the characters of a document. An earlier program refuses it (3)."""
+        return counts_of(await self.ask(op="documents"))
+
+    async def room(self) -> Room:
+        """How much the file has of what there is a limit to, with the limits: what `peritext list` says of a file, and the steps since it was opened.
+        An earlier program refuses it (3)."""
+        return room_of(await self.ask(op="room"))
 
     async def stop(self) -> None:
         """Has all that was edited settled, and no more edits taken (`Refused`, 12). A daemon ends with that, for all its sessions and peers."""

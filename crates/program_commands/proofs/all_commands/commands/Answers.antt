@@ -15,5 +15,6 @@ returns c =
     let four = c.in_ok-subcommand-4.ensures.shape c.in_ok-list_command.ensures.local ∙ ap₂ with_subcommand three (ap top c.in_ok-list_command.ensures.app) in
     let five = c.in_ok-subcommand-5.ensures.shape c.in_ok-check_command.ensures.local ∙ ap₂ with_subcommand four (ap top c.in_ok-check_command.ensures.app) in
     let six = c.in_ok-subcommand-6.ensures.shape c.in_ok-export_command.ensures.local ∙ ap₂ with_subcommand five (ap top c.in_ok-export_command.ensures.app) in
-    let seven = c.in_ok-subcommand-7.ensures.shape c.in_ok-serve_command.ensures.local ∙ ap₂ with_subcommand six (ap top c.in_ok-serve_command.ensures.app) in
-    c.in_ok-all.ensures.shape c.in_ok-ask_command.ensures.local ∙ ap₂ with_subcommand seven (ap top c.in_ok-ask_command.ensures.app)
+    let seven = c.in_ok-subcommand-7.ensures.shape c.in_ok-import_command.ensures.local ∙ ap₂ with_subcommand six (ap top c.in_ok-import_command.ensures.app) in
+    let eight = c.in_ok-subcommand-8.ensures.shape c.in_ok-serve_command.ensures.local ∙ ap₂ with_subcommand seven (ap top c.in_ok-serve_command.ensures.app) in
+    c.in_ok-all.ensures.shape c.in_ok-ask_command.ensures.local ∙ ap₂ with_subcommand eight (ap top c.in_ok-ask_command.ensures.app)

@@ -6,7 +6,9 @@ pub returns : goal.returns
 returns c =
     let with_file = c.in_ok-arg.ensures.shape c.needed.ensures.local ∙ ap₂ with_rule c.described-bare.ensures.app c.needed.ensures.rule in
     let with_doc = c.in_ok-arg-2.ensures.shape c.needed-2.ensures.local ∙ ap₂ with_rule with_file c.needed-2.ensures.rule in
+    let with_form = c.in_ok-arg-3.ensures.shape c.form.ensures.local ∙ ap₂ with_rule with_doc c.form.ensures.rule in
+    let with_rev = c.in_ok-arg-4.ensures.shape c.at_rev.ensures.local ∙ ap₂ with_rule with_form c.at_rev.ensures.rule in
     record {
-      app = c.in_ok-command.ensures.shape c.form.ensures.local ∙ ap₂ with_rule with_doc c.form.ensures.rule;
+      app = c.in_ok-command.ensures.shape c.flag.ensures.local ∙ ap₂ with_rule with_rev c.flag.ensures.rule;
       local = search rules;
     }

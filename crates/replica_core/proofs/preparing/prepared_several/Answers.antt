@@ -10,11 +10,37 @@ use Rattle.op_model.specs.declared.edit.Edit.{Edit}
 use Rattle.op_model.specs.declared.op.Op.{Op}
 use Rattle.op_model.specs.Made.{edit_refusal, made, size_of}
 use Rattle.op_model.specs.Text.{rev}
-use Rattle.replica_core.proofs.MakingLemmas.{making_ends, making_goes_on}
+use Rattle.replica_core.proofs.MakingLemmas.{making_ends, making_goes_on, making_starts}
 use Rattle.replica_core.proofs.SoundLemmas.{list_fits}
 use Rattle.replica_core.specs.Docs.{doc_number}
 use Rattle.replica_core.specs.Turns.{IsBehind, IsMaking}
 use Rattle.replica_core.proofs.preparing.prepared_several.Goals as goal
+
+pub loop-change-init : goal.loop-change-init
+loop-change-init c =
+    let ops = c.args.ops.now in
+    let r = c.args.known.now.replica in
+    let a = c.args.action.now in
+    let old = c.in_ok-copying.copying in
+    let new = c.make.new.self in
+    let item = c.first-first.result.now.change in
+    let rest = c.others-others.result.now in
+    let token : a.token ≡ c.first-first.result.now.token = ap (λ (x : Asked). x.token) c.first-first.ensures in
+    let all : a.changes ≡ item ∷ rest =
+    ap (λ (x : Asked). x.changes) c.first-first.ensures ∙ ap (λ cs. item ∷ cs) (sym c.others-others.ensures.others) in
+    let number : doc_number old.doc ≡ a.doc = c.in_ok-copying.ensures.number ∙ c.requires.number in
+    let start : IsMaking old ops r a.doc a.token a.changes a.changes =
+    making_starts old ops r a.doc a.token a.changes c.in_ok-copying.ensures.made (c.in_ok-copying.ensures.behind ops c.requires.counted c.requires.stands)
+    number c.requires.due in
+    let was : IsMaking old ops r a.doc a.token a.changes (item ∷ rest) =
+    subst (λ left. IsMaking old ops r a.doc a.token a.changes left) all start in
+    let same : edit_of (doc_number old.doc) c.first-first.result.now.token item ≡ edit_of a.doc a.token item = rw (number, ← token) refl in
+    let list : List Op = ops ++ old.ops.items in
+    let due : edit_refusal list r (edit_of (doc_number old.doc) c.first-first.result.now.token item) ≡ None =
+    subst (λ (e : Edit). edit_refusal list r e ≡ None) (sym same) was.due.0 in
+    let is = subst (λ (e : Edit). IsBehind new (list ++ made list r e) × (new.ops.items ≡ old.ops.items ++ made list r e)) same
+    (c.in_ok-make.ensures.made list was.behind due) in
+    making_goes_on old new ops r a.doc a.token a.changes item rest was is.0 is.1 c.in_ok-make.ensures.number
 
 pub loop-change-preserved : goal.loop-change-preserved
 loop-change-preserved c =

@@ -1,4 +1,4 @@
-use Rattle.std.proofs.Common.{ap, sym, ◌∙◌, arith, inl, inr}
+use Rattle.std.proofs.Common.{ap, sym, ◌∙◌, ◌==◌, arith, inl, inr}
 use Rattle.std.proofs.lemmas.Result.{err_from_is_err_and}
 use Rattle.root_slots.specs.Slots.{live}
 use Rattle.root_slots.specs.Live.{rooted, root_at, live_root}
@@ -41,7 +41,7 @@ returns-clause-found c = record {
   whole = omega (arith, c.requires);
   below = c.in_ok-slot.ensures.below;
   picked = c.in_ok-slot.ensures.slot;
-  other = c.is_open-stale_open.ensures;
+  other = ap (λ g. g == 1) c.gate_of-stale_open.ensures;
   spells = rw (sym c.body_at.ensures.body) c.in_ok-root.ensures.says;
   written = rw (sym c.body_at.ensures.body) c.in_ok-root.ensures.written;
 }

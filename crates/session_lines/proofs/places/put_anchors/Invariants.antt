@@ -1,7 +1,8 @@
 use Rattle.std.proofs.Common.{◌≡◌, ◌++◌, List, ℕ, Ok, false, drop}
 use Rattle.std.specs.declared.alloc.AllocError.{AllocError}
+use Rattle.session_lines.specs.Words.{said_list}
 use Rattle.session_lines.specs.Putting.{Puts}
-use Rattle.session_lines.specs.Saying.{said_anchors}
+use Rattle.session_lines.specs.Saying.{said_anchor}
 use Rattle.session_lines.proofs.places.put_anchors.Given as goal
 
 -- some bytes are put, and with what is still to be said they are all
@@ -9,4 +10,4 @@ abbrev pub invariant-loop-place : goal.invariant-loop-place
 invariant-loop-place l =
     (done : List ℕ)
     × Puts {T = Unit {0}} {E = AllocError} (Ok tt) l.initial.out l.out done
-    × (done ++ said_anchors l.later (drop l.place-index l.places) ≡ said_anchors false l.places)
+    × (done ++ said_list said_anchor l.later (drop l.place-index l.places) ≡ said_list said_anchor false l.places)

@@ -6,5 +6,5 @@ use Rattle.span_export.proofs.html_page.put_page.Goals as goal
 pub returns : goal.returns
 returns c =
     let shown = flat_map html_span c.args.spans.now in
-    then_puts _ _ _ _ page_head (shown ++ page_foot) c.in_ok-put.ensures
-    (then_puts _ _ _ _ shown page_foot c.in_ok-put_spans.ensures c.put-2.ensures)
+    then_puts _ _ _ _ page_head (shown ++ page_foot) c.in_ok-put_head.ensures
+    (then_puts _ _ _ _ shown page_foot c.in_ok-put_spans.ensures c.put_foot.ensures)

@@ -1,6 +1,6 @@
 -- The list that was opened is that of the image, and the slots are those of the same file.
 use Rattle.file_listing.specs.Checked.{said_check}
-use Rattle.file_listing.specs.Listing.{room_of}
+use Rattle.list_counts.specs.Documents.{room_of}
 use Rattle.group_commit.specs.Opening.{IsLookedAt}
 use Rattle.root_reports.specs.Reports.{report_of}
 use Rattle.store_orders.proofs.CheckingLemmas.{shows_found}

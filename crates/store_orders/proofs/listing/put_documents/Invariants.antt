@@ -3,6 +3,5 @@ use Rattle.file_listing.specs.Listing.{document_line}
 use Rattle.store_orders.proofs.listing.put_documents.Given as goal
 
 -- the lines of the documents so far are put
-abbrev pub invariant-loop-number : goal.invariant-loop-number
-invariant-loop-number l =
-    l.lines.items ≡ l.initial.lines.items ++ flat_map (document_line l.replica.list) (take l.number-index l.numbers)
+abbrev pub invariant-loop-counts : goal.invariant-loop-counts
+invariant-loop-counts l = l.lines.items ≡ l.initial.lines.items ++ flat_map document_line (take l.counts-index l.documents)

@@ -1,4 +1,6 @@
-use Rattle.std.proofs.Common.{◌∙◌}
+use Rattle.std.proofs.Common.{ap, sym, ◌∙◌}
+use Rattle.list_counts.specs.Documents.{with_writer}
+use Rattle.list_counts.proofs.WriterLemmas.{first_writers-push}
 use Rattle.op_model.specs.Text.{rev}
 use Rattle.doc_core.proofs.StandingLemmas.{counted-more, rev-push}
 use Rattle.doc_core.proofs.draft.Draft.apply.Goals as goal
@@ -11,4 +13,7 @@ returns-clause-taken c = rw (← c.self.view_is) (λ ops draft fits.
       marks = both.1;
       rev = c.saturating_add-self-inside.ensures
           ∙ counted-more c.self.inside.rev (rev ops c.self.inside.doc) 1 _ draft.rev (rev-push ops c.self.inside.doc c.args.op.now fits.same);
+      writers = c.put.ensures ∙ ap (λ r. with_writer r c.self.inside.writers) c.replica.ensures
+          ∙ ap (with_writer c.args.op.now.id.replica) draft.writers
+          ∙ sym (first_writers-push ops c.self.inside.doc c.args.op.now fits.same);
     })

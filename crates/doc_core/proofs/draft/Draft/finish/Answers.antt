@@ -1,4 +1,4 @@
-use Rattle.std.proofs.Common.{sym}
+use Rattle.std.proofs.Common.{sym, ◌∙◌}
 use Rattle.char_sequence.specs.Content.{Holds}
 use Rattle.doc_core.specs.Drafting.{IsDraftOf}
 use Rattle.doc_core.proofs.draft.Draft.finish.Goals as goal
@@ -12,4 +12,5 @@ returns-clause-stands c = λ ops draft.
       characters = rw same holds;
       marks = c.in_ok-anchors.ensures ops c.self.inside.doc mine.marks;
       rev = mine.rev;
+      writers = c.copy.ensures ∙ mine.writers;
     }

@@ -7,4 +7,5 @@ returns-clause-empty c = record {
   characters = rw c.in_ok-new.ensures (holds_empty c.args.doc);
   marks = c.new-2.ensures c.args.doc;
   rev = refl;
+  writers = c.new-3.ensures;
 }

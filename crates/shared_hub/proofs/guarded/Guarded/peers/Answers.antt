@@ -1,7 +1,7 @@
 use Rattle.std.proofs.Common.{◌≡◌, take, sym, ◌∙◌, arith}
 use Rattle.std.proofs.lemmas.List.{take_all}
 use Rattle.op_model.specs.Causality.{clock_of}
-use Rattle.peer_counts.specs.Counts.{counts_of}
+use Rattle.list_counts.specs.Counts.{counts_of}
 use Rattle.shared_hub.proofs.PeerLemmas.{none_more, row_more, rows_counted}
 use Rattle.shared_hub.proofs.guarded.Guarded.peers.Goals as goal
 use Rattle.shared_hub.proofs.guarded.Guarded.peers.Goals.{in-Some+in_ok-push, in_default}

@@ -1,0 +1,52 @@
+/**
+ * What an answer to `documents` tells.
+ * @param {import("./wire.js").Answer} answer
+ * @returns {DocumentCounts[]}
+ */
+export function countsOf({ documents }: import("./wire.js").Answer): DocumentCounts[];
+/**
+ * What an answer to `room` tells.
+ * @param {import("./wire.js").Answer} answer
+ * @returns {Room}
+ */
+export function roomOf(answer: import("./wire.js").Answer): Room;
+/** What is counted of a file: its documents, and its room. */
+/**
+ * A document that has operations: its number, how many characters (Unicode scalar values) it shows, how many operations it has,
+ * and the replicas that have some in it, in rising order. A removed character still counts among the operations.
+ * @typedef {{number: number, characters: number, operations: number, writers: string[]}} DocumentCounts
+ */
+/**
+ * How much a file has of what there is a limit to, each with its limit: bytes of records, documents and replicas that have
+ * operations, operations, and steps since the file was opened (edits, merges and commits).
+ * @typedef {{bytes: number, bytesLimit: number, documents: number, documentsLimit: number, operations: number, operationsLimit: number,
+ *   replicas: number, replicasLimit: number, steps: number, stepsLimit: number}} Room
+ */
+/** The parts of a room, each of which an answer names with its limit. */
+export const PARTS: string[];
+/**
+ * A document that has operations: its number, how many characters (Unicode scalar values) it shows, how many operations it has,
+ * and the replicas that have some in it, in rising order. A removed character still counts among the operations.
+ */
+export type DocumentCounts = {
+    number: number;
+    characters: number;
+    operations: number;
+    writers: string[];
+};
+/**
+ * How much a file has of what there is a limit to, each with its limit: bytes of records, documents and replicas that have
+ * operations, operations, and steps since the file was opened (edits, merges and commits).
+ */
+export type Room = {
+    bytes: number;
+    bytesLimit: number;
+    documents: number;
+    documentsLimit: number;
+    operations: number;
+    operationsLimit: number;
+    replicas: number;
+    replicasLimit: number;
+    steps: number;
+    stepsLimit: number;
+};

@@ -1,0 +1,11 @@
+use Rattle.session_lines.proofs.PutLemmas.{◌>>◌, stops}
+use Rattle.session_lines.proofs.answer_line.put_counted.Goals as goal
+
+pub returns-in_err-put : goal.returns-in_err-put
+returns-in_err-put c = stops c.from_residual.ensures.0 c.in_err-put.ensures
+
+pub returns-in_err-put_documents : goal.returns-in_err-put_documents
+returns-in_err-put_documents c = stops c.from_residual-in_err-put_documents.ensures.0 (c.in_ok-put.ensures >> c.in_err-put_documents.ensures)
+
+pub returns : goal.returns
+returns c = rw (← c.as_slice.ensures) (c.in_ok-put.ensures >> c.in_ok-put_documents.ensures >> c.put-2.ensures)

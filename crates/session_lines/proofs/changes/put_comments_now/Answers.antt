@@ -1,0 +1,5 @@
+use Rattle.session_lines.proofs.PutLemmas.{stops}
+use Rattle.session_lines.proofs.changes.put_comments_now.Goals as goal
+
+pub returns-in_err-put : goal.returns-in_err-put
+returns-in_err-put c = stops c.from_residual.ensures.0 c.in_err-put.ensures
