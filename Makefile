@@ -11,7 +11,7 @@ run:
 	cd crates/edit_shell && rt try < stdin
 
 # Everything from nothing, but for what an earlier run on this machine passed: each proof, each must-fail edit, each test, the program's stored run. Then the proved program on real files,
-# and the clients over it; that for JavaScript only where there is node.
+# and beside that the clients over it; that for JavaScript only where there is node.
 # It is kept as bin/peritext with the line of its sources, unless these changed meanwhile. `rt ci` runs below a clock, which ends with what each crate cost, and with its status; above
 # a limit of processor seconds it fails.
 test:
@@ -20,11 +20,7 @@ test:
 	python3 tools/edits.py
 	python3 tools/gate_times.py
 	@if $(SUM) | cmp -s - bin/asked; then python3 tools/quick.py --passed && cp $(PROGRAM) bin/peritext && mv bin/asked bin/sources; fi
-	python3 checks/run.py $(PROGRAM)
-	PERITEXT=$(abspath $(PROGRAM)) python3 clients/python/tests/run.py
-	@if node -e 'process.exit(parseInt(process.versions.node) < 20 ? 1 : 0)' 2> /dev/null; then \
-	    PERITEXT=$(abspath $(PROGRAM)) node clients/js/tests/run.mjs; \
-	else echo "skipped: clients/js, for there is no node of version 20 or later"; fi
+	python3 tools/over_program.py $(PROGRAM)
 
 # What changed since the last `make test` that passed here, and what stands on it: proved and tested, with the edits of what changed alone. The program is then
 # bin/peritext, unless the sources changed meanwhile.

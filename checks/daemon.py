@@ -19,8 +19,9 @@ PATIENCE = 20
 READY = b'{"ok":true}\n'
 
 
-# Ports below those that the system gives to connections by itself, from one by chance on.
-FIRST_PORT, PORTS = 20_000, 12_000
+# Ports below those that the system gives to connections by itself, from one by chance on; those of each lane of `run` are its own.
+PORTS = 6_000
+FIRST_PORT = 20_000 + PORTS * int(os.environ.get("PERITEXT_LANE", 0))
 numbers = itertools.count(random.randrange(PORTS))
 
 

@@ -3,7 +3,7 @@
 import assert from "node:assert/strict";
 import { spawn } from "node:child_process";
 import { once } from "node:events";
-import { connect as connectTo, createServer } from "node:net";
+import { connect as connectTo } from "node:net";
 import { resolve } from "node:path";
 
 import { STRONG, Stale, init } from "peritext";
@@ -23,13 +23,17 @@ export async function seeEachOther(one, other) {
   await other.close();
 }
 
-/** A port on which nobody listens now. */
+// Ports below those that the system gives to connections by itself, and apart from those of the other tests of the gate.
+const FIRST_PORT = 16_000;
+const PORTS = 4_000;
+let number = Math.floor(Math.random() * PORTS);
+
+/** A port on which nobody listens now, and that this file wasn't given before. */
 export async function freePort() {
-  const server = createServer().listen(0, "127.0.0.1");
-  await once(server, "listening");
-  const { port } = server.address();
-  await new Promise((done) => server.close(done));
-  return port;
+  for (;;) {
+    const port = FIRST_PORT + (number++ % PORTS);
+    if (!(await isHeard(port))) return port;
+  }
 }
 
 async function isHeard(port) {

@@ -1,6 +1,8 @@
 """What the tests share: the client, the program, files and daemons that are gone afterwards."""
 
+import itertools
 import os
+import random
 import signal
 import socket
 import subprocess
@@ -66,10 +68,18 @@ class Daemon:
         return self.run.returncode, said.decode() if said else ""
 
 
+# Ports below those that the system gives to connections by itself, and apart from those of the other tests of the gate.
+FIRST_PORT, PORTS = 12_000, 4_000
+numbers = itertools.count(random.randrange(PORTS))
+
+
 def free_port():
-    """A port on which nobody listens now."""
-    with socket.create_server(("127.0.0.1", 0)) as server:
-        return server.getsockname()[1]
+    """A port on which nobody listens now, and that this run wasn't given before."""
+    while True:
+        port = FIRST_PORT + next(numbers) % PORTS
+        with socket.socket() as probe:
+            if probe.connect_ex(("127.0.0.1", port)):
+                return port
 
 
 def is_heard(port):

@@ -7,7 +7,7 @@ use op_model::{Action, Change, Edit};
 use std::alloc::{AllocError, Global};
 
 /// Changes of which an action is to be made: as many as one may have, at most.
-#[derive(Debug, Drop)]
+#[derive(Drop)]
 pub(crate) struct ActionDraft {
     first: Option<Change>,
     others: Vec<Change>,

@@ -20,7 +20,7 @@ const EACH: usize = 128;
 const CHARACTER: usize = 4;
 
 /// Changes that put text in at the end of a document, and then the marks of it.
-#[derive(Debug, Drop)]
+#[derive(Drop)]
 pub(crate) struct Batch {
     end: DocumentEnd,
     /// Where the next character goes.

@@ -3,7 +3,7 @@ use op_model::{Change, Mark};
 use std::alloc::AllocError;
 
 /// Where a mark begins that still goes on.
-#[derive(Debug, Drop)]
+#[derive(Drop)]
 pub(crate) struct MarkingRun {
     begun: Option<(u32, Mark)>,
 }

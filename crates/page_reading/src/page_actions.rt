@@ -35,7 +35,7 @@ fn plain(alloc: Global) -> Marks {
 }
 
 /// The actions that are whole, and the changes of the next one.
-#[derive(Debug, Drop)]
+#[derive(Drop)]
 struct Gathered {
     made: Vec<Action>,
     batch: Batch,

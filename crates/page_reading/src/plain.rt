@@ -1,9 +1,8 @@
 //! A text as it stands.
 ghost use Rattle.std.specs.Prelude.{◌≡◌, ◌∷◌, [], ◌<◌, IfOk, length};
-ghost use Rattle.page_reading.specs.Pages.{no_marks, nothing};
+ghost use Rattle.markdown_reading.specs.Pages.{no_marks, nothing};
 
-use crate::dropped::Dropped;
-use crate::page::Page;
+use markdown_reading::{Dropped, Page};
 use op_model::{CommentIds, Marks, Span, Text};
 use std::alloc::{AllocError, Global};
 

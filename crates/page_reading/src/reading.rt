@@ -1,8 +1,7 @@
 //! A page in the form that is named.
-use crate::markdown::read_markdown;
-use crate::page::Page;
 use crate::page_form::PageForm;
 use crate::plain::read_text;
+use markdown_reading::{Page, read_markdown};
 use std::alloc::{AllocError, Global};
 
 /// Reads a page in this form. An error is out of memory (1). The time is nearly that of its length.

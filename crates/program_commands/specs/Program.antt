@@ -76,20 +76,21 @@ export_app =
 abbrev pub origin_option : Rule
 origin_option = record (new_rule (codes "origin")) { long = Some (codes "origin"); value_names = 1; action = Some Append }
 
+-- a command with the ports of a daemon: `--sessions PORT --peers PORT [--link PORT] [--web PORT]`
+abbrev pub with_port_options : App → App
+with_port_options app =
+    with_rule
+    (with_rule (with_rule (with_rule app (needed_port (codes "sessions"))) (needed_port (codes "peers")))
+    (port_option (codes "link")))
+    (port_option (codes "web"))
+
 -- `serve FILE --sessions PORT --peers PORT [--link PORT] [--web PORT] [--origin ORIGIN].. [--end-on-failure] [--log] [--ready]`
 abbrev pub serve_app : App
 serve_app =
     with_rule
     (with_rule
     (with_rule
-    (with_rule
-    (with_rule
-    (with_rule
-    (with_rule (with_rule (with_rule (new_app (codes "serve")) (needed (codes "FILE"))) (needed_port (codes "sessions")))
-    (needed_port (codes "peers")))
-    (port_option (codes "link")))
-    (port_option (codes "web")))
-    origin_option)
+    (with_rule (with_port_options (with_rule (new_app (codes "serve")) (needed (codes "FILE")))) origin_option)
     (flag_option (codes "end-on-failure")))
     (flag_option (codes "log")))
     (flag_option (codes "ready"))

@@ -5,7 +5,7 @@ ghost use Rattle.clap.specs.Words.{app_of, rule_of};
 ghost use Rattle.clap.specs.declared.builder.command.Command.TheViews.{out-Command};
 ghost use Rattle.program_commands.specs.Program.{init_app, edit_app, dump_app, serve_app, port_option, program};
 ghost use Rattle.program_commands.specs.Program.{flag_option, list_app, export_app, form_option, origin_option};
-ghost use Rattle.program_commands.specs.Program.{check_app, ask_app, line_rule};
+ghost use Rattle.program_commands.specs.Program.{check_app, ask_app, line_rule, with_port_options};
 ghost use Rattle.program_commands.specs.Program.{import_app, from_option, rev_option};
 ghost use Rattle.program_commands.specs.Program.{needed as needed_rule};
 
@@ -176,12 +176,7 @@ fn serve_command<'a>(alloc: Global) -> Result<Command<'a>, AllocError>
         "Serves sessions and peers over sockets",
         SERVE_EXAMPLES,
     );
-    let command = bare
-        .arg(needed(alloc, "FILE", "The store"))?
-        .arg(port(alloc, "sessions", "Where sessions come in").required(true))?
-        .arg(port(alloc, "peers", "Where peers come in").required(true))?
-        .arg(port(alloc, "link", "Where the peer listens that is joined"))?
-        .arg(port(alloc, "web", "Where WebSockets come in"))?
+    let command = with_ports(alloc, bare.arg(needed(alloc, "FILE", "The store"))?)?
         .arg(origin(alloc))?
         .arg(flag(alloc, "end-on-failure", "Ends once the device failed (9)"))?
         .arg(flag(
@@ -190,6 +185,21 @@ fn serve_command<'a>(alloc: Global) -> Result<Command<'a>, AllocError>
             "Writes a line for each event to standard error",
         ))?
         .arg(flag(alloc, "ready", "Prints a line once all its ports listen"))?;
+    Ok(command)
+}
+
+/// A command with the ports of a daemon: a function of its own, since the proof of one grows with the
+/// square of its ways out.
+fn with_ports<'a>(alloc: Global, command: Command<'a>) -> Result<Command<'a>, AllocError>
+    ensures app { IfOk result (λ it. app_of it ≡ with_port_options (app_of command.entry)) }
+    ensures local { (out-Command command.entry).has_globals ≡ false
+        → IfOk result (λ it. (out-Command it).has_globals ≡ false) }
+{
+    let command = command
+        .arg(port(alloc, "sessions", "Where sessions come in").required(true))?
+        .arg(port(alloc, "peers", "Where peers come in").required(true))?
+        .arg(port(alloc, "link", "Where the peer listens that is joined"))?
+        .arg(port(alloc, "web", "Where WebSockets come in"))?;
     Ok(command)
 }
 

@@ -12,6 +12,8 @@ mod export_tests;
 #[cfg(test)]
 mod mark_tests;
 #[cfg(test)]
+mod markdown_tests;
+#[cfg(test)]
 mod page_tests;
 #[cfg(test)]
 mod perform_tests;

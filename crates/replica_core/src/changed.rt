@@ -1,9 +1,12 @@
 //! What changed in a document of a replica.
-ghost use Rattle.std.specs.Prelude.{◌≡◌, ◌≤◌, ◌+◌, map, take, IfOk, IfSome, IsSome};
+ghost use Rattle.std.specs.Prelude.{◌≡◌, ◌≤◌, ◌<◌, ◌+◌, map, take, IfOk, IfSome, IsSome};
 ghost use Rattle.op_model.specs.declared.change_step.ChangeStep.TheVariants.{Put};
+ghost use Rattle.doc_core.specs.Standing.{StandsFor};
+ghost use Rattle.op_model.specs.Causality.{IsCausallyClosed};
 ghost use Rattle.op_model.specs.Text.{rev};
 ghost use Rattle.replica_core.specs.Came.{IsCame};
 ghost use Rattle.replica_core.specs.Changed.{TellsChanges};
+ghost use Rattle.replica_core.specs.Docs.{doc_number};
 ghost use Rattle.replica_core.specs.Repeats.{AreRepeats};
 
 use crate::docs::{count, find};
@@ -28,21 +31,41 @@ impl Replica {
             (λ found. TellsChanges self.now.list self.now.opened doc since found) }
     {
         let alloc = self.log.list.allocator();
-        let empty = Doc::new(alloc, doc);
-        let document = find(&self.log.docs, &empty);
-        let list = self.log.list.as_slice();
-        let rev = count(document, &list);
-        if since > rev {
-            return Ok(None);
-        }
         if since == 0 {
             let spans = self.spans(doc)?;
             return Ok(Some(all_put(alloc, spans)?));
         }
-        match came(alloc, doc, &list, &self.repeats, rev - since)? {
-            Some(came) => Ok(Some(document.changes(&came)?)),
-            None => Ok(None),
-        }
+        let empty = Doc::new(alloc, doc);
+        let list = self.log.list.as_slice();
+        let document = find(&self.log.docs, &empty);
+        changed_since(alloc, document, &list, &self.repeats, since)
+    }
+}
+
+/// What changed in a document of a list since it had `since` operations, one at least. `None` if it
+/// has fewer, or if that was before anything was noted. An error is out of memory (1). Costs what
+/// `Replica::changes` says.
+fn changed_since(
+    alloc: Global,
+    document: &Doc,
+    list: &RunSlice<'_>,
+    repeats: &Repeats,
+    since: usize,
+) -> Result<Option<Vec<ChangeStep>>, AllocError>
+    requires closed { IsCausallyClosed list.now }
+    requires stands { StandsFor document.now list.now }
+    requires repeats { AreRepeats repeats.now list.now }
+    requires later { 0 < since }
+    ensures { IfOk result (λ found.
+        TellsChanges list.now repeats.now.from (doc_number document.now) since found) }
+{
+    let rev = count(document, list);
+    if since > rev {
+        return Ok(None);
+    }
+    match came(alloc, document.number(), list, repeats, rev - since)? {
+        Some(came) => Ok(Some(document.changes(&came)?)),
+        None => Ok(None),
     }
 }
 

@@ -1,8 +1,7 @@
 //! Who is connected to a hub that threads share.
 ghost use Rattle.std.specs.Prelude.{◌≡◌};
 
-use crate::test_hubs::{insert, parts, replica};
-use disk_trait::MemDisk;
+use crate::test_hubs::{first_pass, insert, replica, share};
 use op_ids::Clock;
 use pass_books::BookNames;
 use shared_hub::{Named, Opened, Pass, Shared};
@@ -54,9 +53,8 @@ fn rows_in_turn<J: BookNames, R: Wait>(
     shared: &Shared<J>,
     pass: &mut Pass<J>,
 ) -> Option<[(usize, u8, u64, u64); 3]> {
-    let edit = insert(alloc, 1)?;
-    shared.edit(rt, pass, &edit).ok()?;
-    shared.edit(rt, pass, &edit).ok()?;
+    shared.edit(rt, pass, &insert(alloc, 1)?).ok()?;
+    shared.edit(rt, pass, &insert(alloc, 1)?).ok()?;
     link(rt, shared, 1, 3, clock(alloc, 3, 4)?)?;
     let second = rows(rt, alloc, shared, pass)?;
     link(rt, shared, 0, 2, clock(alloc, 1, 1)?)?;
@@ -75,7 +73,19 @@ fn sessions<J: BookNames, R: Wait>(rt: &R, shared: &Shared<J>) -> [u64; 3] {
     [none, two, shared.sessions(rt)]
 }
 
-/// The rows and the sessions of a new replica's hub.
+/// The rows and the sessions.
+fn rows_and_sessions<J: BookNames, R: Wait>(
+    rt: &R,
+    alloc: Global,
+    shared: &Shared<J>,
+    passes: Vec<Pass<J>>,
+) -> Option<([(usize, u8, u64, u64); 3], [u64; 3])> {
+    let mut pass = first_pass(passes)?;
+    let sessions = sessions(rt, shared);
+    Some((rows_in_turn(rt, alloc, shared, &mut pass)?, sessions))
+}
+
+/// Those of a new replica's hub.
 fn connected<J: BookNames, R: Wait>(
     rt: &R,
     alloc: Global,
@@ -83,11 +93,8 @@ fn connected<J: BookNames, R: Wait>(
 ) -> Option<([(usize, u8, u64, u64); 3], [u64; 3])>
     requires { opened ≡ J.names }
 {
-    let parts = parts(alloc)?;
-    let Named { shared, passes, .. } = opened.share::<J, MemDisk>(alloc, parts).ok()?;
-    let mut pass = passes.into_iter().next()?;
-    let sessions = sessions(rt, &shared);
-    Some((rows_in_turn(rt, alloc, &shared, &mut pass)?, sessions))
+    let Named { shared, passes, .. } = share::<J>(alloc, opened)?;
+    rows_and_sessions(rt, alloc, &shared, passes)
 }
 
 #[test]

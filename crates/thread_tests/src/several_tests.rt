@@ -1,7 +1,7 @@
 //! How several documents of a hub that threads share are watched.
 ghost use Rattle.std.specs.Prelude.{◌≡◌};
 
-use crate::test_hubs::parts;
+use crate::test_hubs::{first_pass, share};
 use crate::watch_tests::settle_edit;
 use disk_trait::MemDisk;
 use pass_books::BookNames;
@@ -38,6 +38,29 @@ fn next_three<J: BookNames, R: Wait + Clock>(
     ])
 }
 
+/// The same by books of these documents and of all.
+fn told_of<J: BookNames, R: Wait + Clock>(
+    rt: &R,
+    alloc: Global,
+    shared: &Shared<J>,
+    pass: &mut Pass<J>,
+    (these, all): (&mut WatchBook, &mut WatchBook),
+) -> Option<[[WatchedOf; 3]; 5]> {
+    let first = next_three(rt, shared, these)?;
+    settle_edit(rt, alloc, shared, pass, 1)?;
+    settle_edit(rt, alloc, shared, pass, 3)?;
+    let second = next_three(rt, shared, these)?;
+    let whole = next_three(rt, shared, all)?;
+    settle_edit(rt, alloc, shared, pass, 2)?;
+    Some([
+        first,
+        second,
+        whole,
+        next_three(rt, shared, these)?,
+        next_three(rt, shared, all)?,
+    ])
+}
+
 /// What is told of documents 1 and 2: at first, after settled edits of documents 1 and 3, and after
 /// one of document 2. And what is told of all documents before that one, and after it.
 fn told<J: BookNames, R: Wait + Clock>(
@@ -48,19 +71,7 @@ fn told<J: BookNames, R: Wait + Clock>(
 ) -> Option<[[WatchedOf; 3]; 5]> {
     let mut these = shared.watch_these(rt, alloc, &[2, 1, 2]).ok()?;
     let mut all = WatchBook::of_all(alloc);
-    let first = next_three(rt, shared, &mut these)?;
-    settle_edit(rt, alloc, shared, pass, 1)?;
-    settle_edit(rt, alloc, shared, pass, 3)?;
-    let second = next_three(rt, shared, &mut these)?;
-    let whole = next_three(rt, shared, &mut all)?;
-    settle_edit(rt, alloc, shared, pass, 2)?;
-    Some([
-        first,
-        second,
-        whole,
-        next_three(rt, shared, &mut these)?,
-        next_three(rt, shared, &mut all)?,
-    ])
+    told_of(rt, alloc, shared, pass, (&mut these, &mut all))
 }
 
 /// Watches while this thread flushes, and gives what was told.
@@ -68,9 +79,10 @@ fn told_beside<J: BookNames + Send + Sync, R: Wait + Clock + Threads + Sync>(
     rt: &R,
     alloc: Global,
     shared: &Shared<J>,
-    pass: Pass<J>,
+    passes: Vec<Pass<J>>,
     committer: &mut Committer<J, MemDisk>,
 ) -> Option<[[WatchedOf; 3]; 5]> {
+    let pass = first_pass(passes)?;
     let found = Mutex::new(None);
     let seen = &found;
     thread::scope(thread::scope_env(), rt, |scope| {
@@ -86,7 +98,29 @@ fn told_beside<J: BookNames + Send + Sync, R: Wait + Clock + Threads + Sync>(
     found.into_inner()
 }
 
+/// What is told of documents 1 and 2 after the flusher's end.
+fn told_late<J: BookNames, R: Wait + Clock>(
+    rt: &R,
+    alloc: Global,
+    shared: &Shared<J>,
+) -> Option<[WatchedOf; 3]> {
+    let mut late = shared.watch_these(rt, alloc, &[1, 2]).ok()?;
+    next_three(rt, shared, &mut late)
+}
+
 /// What was told, and what is told after the flusher's end.
+fn told_in_turn<J: BookNames + Send + Sync, R: Wait + Clock + Threads + Sync>(
+    rt: &R,
+    alloc: Global,
+    shared: &Shared<J>,
+    passes: Vec<Pass<J>>,
+    committer: &mut Committer<J, MemDisk>,
+) -> Option<([[WatchedOf; 3]; 5], [WatchedOf; 3])> {
+    let found = told_beside(rt, alloc, shared, passes, committer)?;
+    Some((found, told_late(rt, alloc, shared)?))
+}
+
+/// The same of a new hub.
 fn all_told<J: BookNames + Send + Sync, R: Wait + Clock + Threads + Sync>(
     rt: &R,
     alloc: Global,
@@ -94,16 +128,12 @@ fn all_told<J: BookNames + Send + Sync, R: Wait + Clock + Threads + Sync>(
 ) -> Option<([[WatchedOf; 3]; 5], [WatchedOf; 3])>
     requires { opened ≡ J.names }
 {
-    let parts = parts(alloc)?;
     let Named {
         shared,
         mut committer,
         passes,
-    } = opened.share::<J, MemDisk>(alloc, parts).ok()?;
-    let pass = passes.into_iter().next()?;
-    let found = told_beside(rt, alloc, &shared, pass, &mut committer)?;
-    let mut late = shared.watch_these(rt, alloc, &[1, 2]).ok()?;
-    Some((found, next_three(rt, &shared, &mut late)?))
+    } = share::<J>(alloc, opened)?;
+    told_in_turn(rt, alloc, &shared, passes, &mut committer)
 }
 
 /// So many settled operations of a document.

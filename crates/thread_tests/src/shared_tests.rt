@@ -1,7 +1,7 @@
 //! A hub that threads share.
 ghost use Rattle.std.specs.Prelude.{◌≡◌};
 
-use crate::test_hubs::{insert, parts};
+use crate::test_hubs::{first_pass, insert, share};
 use disk_trait::MemDisk;
 use pass_books::BookNames;
 use shared_hub::{Committer, Named, NoCheckpoint, Opened, Pass, Shared, flush};
@@ -24,21 +24,12 @@ fn make_edits<R: Wait, J: BookNames>(
     pass: &mut Pass<J>,
 ) -> Option<u64> {
     for _ in 0..EDITS {
-        let edit = insert(alloc, 1)?;
-        let ticket = shared.edit(rt, pass, &edit).ok()?;
+        let ticket = shared.edit(rt, pass, &insert(alloc, 1)?).ok()?;
         if !shared.acknowledge(rt, pass, ticket) {
             return None;
         }
     }
     Some(pass.made())
-}
-
-/// A new hub under these books.
-fn share<J: BookNames>(alloc: Global, opened: Opened) -> Option<Named<J, MemDisk>>
-    requires { opened ≡ J.names }
-{
-    let parts = parts(alloc)?;
-    opened.share::<J, MemDisk>(alloc, parts).ok()
 }
 
 /// Four threads edit beside the flusher's. Gives how many entries their passes have in all, and how
@@ -121,9 +112,8 @@ fn waits_behind_the_end<J: BookNames, R: Wait>(
     shared: &Shared<J>,
     passes: Vec<Pass<J>>,
 ) -> Option<(bool, bool)> {
-    let mut pass = passes.into_iter().next()?;
-    let edit = insert(alloc, 1)?;
-    let ticket = shared.edit(rt, &mut pass, &edit).ok()?;
+    let mut pass = first_pass(passes)?;
+    let ticket = shared.edit(rt, &mut pass, &insert(alloc, 1)?).ok()?;
     let is_acknowledged = shared.acknowledge(rt, &mut pass, ticket);
     Some((is_acknowledged, shared.stop(rt)))
 }

@@ -1,5 +1,5 @@
 //! What hubs that threads share are made of, and the edits of their tests.
-ghost use Rattle.std.specs.Prelude.{IfSome};
+ghost use Rattle.std.specs.Prelude.{◌≡◌, IfSome};
 ghost use Rattle.hub_parts.specs.Opening.{IsOpened};
 
 use disk_trait::MemDisk;
@@ -7,6 +7,8 @@ use group_commit::Store;
 use hub_parts::{Parts, open};
 use op_ids::ReplicaId;
 use op_model::{Action, Change, Edit, EditText};
+use pass_books::BookNames;
+use shared_hub::{Named, Opened, Pass};
 use std::alloc::Global;
 
 /// The replica whose name ends in this byte.
@@ -40,4 +42,18 @@ pub fn parts(alloc: Global) -> Option<Parts<MemDisk>>
         return None;
     };
     Some(parts)
+}
+
+/// A new hub under these books. A test hands its parts on at once: each way out past them is what
+/// the proof of a test costs.
+pub fn share<J: BookNames>(alloc: Global, opened: Opened) -> Option<Named<J, MemDisk>>
+    requires { opened ≡ J.names }
+{
+    let parts = parts(alloc)?;
+    opened.share::<J, MemDisk>(alloc, parts).ok()
+}
+
+/// The first of these passes.
+pub fn first_pass<J: BookNames>(passes: Vec<Pass<J>>) -> Option<Pass<J>> {
+    passes.into_iter().next()
 }

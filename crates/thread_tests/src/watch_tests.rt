@@ -1,7 +1,7 @@
 //! How a document of a hub that threads share is watched.
 ghost use Rattle.std.specs.Prelude.{◌≡◌};
 
-use crate::test_hubs::{insert, parts};
+use crate::test_hubs::{first_pass, insert, share};
 use disk_trait::MemDisk;
 use pass_books::BookNames;
 use shared_hub::{Committer, Named, NoCheckpoint, Opened, Pass, Shared, Watched, flush};
@@ -24,8 +24,7 @@ pub fn settle_edit<J: BookNames, R: Wait>(
     pass: &mut Pass<J>,
     doc: u32,
 ) -> Option<()> {
-    let edit = insert(alloc, doc)?;
-    let ticket = shared.edit(rt, pass, &edit).ok()?;
+    let ticket = shared.edit(rt, pass, &insert(alloc, doc)?).ok()?;
     if !shared.acknowledge(rt, pass, ticket) {
         return None;
     }
@@ -94,6 +93,20 @@ fn after_the_end<J: BookNames, R: Wait + Clock>(rt: &R, shared: &Shared<J>) -> [
 }
 
 /// All of this in turn.
+fn watched_in_turn<J: BookNames + Send + Sync, R: Wait + Clock + Threads + Sync>(
+    rt: &R,
+    alloc: Global,
+    shared: &Shared<J>,
+    passes: Vec<Pass<J>>,
+    committer: &mut Committer<J, MemDisk>,
+) -> Option<([Watched; 2], [Watched; 3], [Watched; 2])> {
+    let mut pass = first_pass(passes)?;
+    let before = unsettled(rt, alloc, shared, &mut pass)?;
+    let found = watch_beside(rt, alloc, shared, pass, committer)?;
+    Some((before, found, after_the_end(rt, shared)))
+}
+
+/// The same of a new hub.
 fn all_watched<J: BookNames + Send + Sync, R: Wait + Clock + Threads + Sync>(
     rt: &R,
     alloc: Global,
@@ -101,16 +114,12 @@ fn all_watched<J: BookNames + Send + Sync, R: Wait + Clock + Threads + Sync>(
 ) -> Option<([Watched; 2], [Watched; 3], [Watched; 2])>
     requires { opened ≡ J.names }
 {
-    let parts = parts(alloc)?;
     let Named {
         shared,
         mut committer,
         passes,
-    } = opened.share::<J, MemDisk>(alloc, parts).ok()?;
-    let mut pass = passes.into_iter().next()?;
-    let before = unsettled(rt, alloc, &shared, &mut pass)?;
-    let found = watch_beside(rt, alloc, &shared, pass, &mut committer)?;
-    Some((before, found, after_the_end(rt, &shared)))
+    } = share::<J>(alloc, opened)?;
+    watched_in_turn(rt, alloc, &shared, passes, &mut committer)
 }
 
 #[test]

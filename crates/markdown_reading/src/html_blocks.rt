@@ -7,7 +7,7 @@ use crate::tags::{Missing, closing, opening};
 use std::alloc::{AllocError, Global};
 
 /// What a block of HTML ends with.
-#[derive(Clone, Copy, Debug, PartialEq, Eq)]
+#[derive(Clone, Copy, PartialEq, Eq)]
 pub(crate) enum End {
     /// The line with one of the tags that end a program, a style or a text as it stands.
     Tag,

@@ -3,7 +3,7 @@ use crate::characters::is_space;
 use crate::scanning::{after, after_name, after_word, first, from_word, front, skip};
 
 /// What a tag is.
-#[derive(Clone, Copy, Debug, PartialEq, Eq)]
+#[derive(Clone, Copy, PartialEq, Eq)]
 pub(crate) enum Tag {
     /// One that says nothing here: `<span>` or `</span>`.
     Nothing,
@@ -14,7 +14,7 @@ pub(crate) enum Tag {
 }
 
 /// Ends that are known not to come any more, so that they aren't looked for again.
-#[derive(Clone, Copy, Debug)]
+#[derive(Clone, Copy)]
 pub(crate) struct Missing {
     comment: bool,
     instruction: bool,

@@ -1,6 +1,6 @@
 //! What of a page isn't kept.
 ghost use Rattle.std.specs.Prelude.{◌≡◌};
-ghost use Rattle.page_reading.specs.Pages.{nothing};
+ghost use Rattle.markdown_reading.specs.Pages.{nothing};
 
 /// What a page may have that a document doesn't: it becomes plain text.
 #[derive(Clone, Copy, Debug, PartialEq, Eq)]

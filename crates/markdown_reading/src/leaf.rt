@@ -4,7 +4,7 @@ use crate::block_starts::Fence;
 use crate::html_blocks::End;
 
 /// What the next line may go on with.
-#[derive(Clone, Copy, Debug, PartialEq, Eq)]
+#[derive(Clone, Copy, PartialEq, Eq)]
 pub(crate) enum Leaf {
     Nothing,
     Paragraph,
@@ -15,7 +15,7 @@ pub(crate) enum Leaf {
 }
 
 /// A line, in as many containers as it stands in.
-#[derive(Clone, Copy, Debug)]
+#[derive(Clone, Copy)]
 pub(crate) struct Line<'a> {
     pub kept: usize,
     pub rest: &'a [char],

@@ -1,6 +1,6 @@
 //! Paragraphs that are being written.
 ghost use Rattle.std.specs.Prelude.{IfOk};
-ghost use Rattle.page_reading.specs.Pages.{HaveText};
+ghost use Rattle.markdown_reading.specs.Pages.{HaveText};
 
 use crate::characters::is_space;
 use crate::dropped::{Dropped, Kind};
@@ -14,7 +14,7 @@ use crate::span_writer::{SpanWriter, Style};
 use std::alloc::{AllocError, Global};
 
 /// A page that is being written: a line feed stands between two paragraphs.
-#[derive(Debug, Drop)]
+#[derive(Drop)]
 pub(crate) struct Draft {
     writer: SpanWriter,
     dropped: Dropped,
@@ -23,7 +23,7 @@ pub(crate) struct Draft {
 
 /// What is emphasised at a place, how often, and the link there. A link around it, as one may stand
 /// around an address that shows itself, goes on after it.
-#[derive(Clone, Copy, Debug)]
+#[derive(Clone, Copy)]
 struct Depth {
     em: usize,
     strong: usize,

@@ -7,7 +7,7 @@ use op_model::Url;
 use std::alloc::{AllocError, Global};
 
 /// The brackets of a paragraph.
-#[derive(Debug, Drop)]
+#[derive(Drop)]
 pub(crate) struct Brackets {
     pub all: Vec<Bracket>,
     /// The numbers of those that aren't closed.

@@ -1,12 +1,12 @@
 //! Spans that are being written.
 ghost use Rattle.std.specs.Prelude.{IfOk};
-ghost use Rattle.page_reading.specs.Pages.{HaveText};
+ghost use Rattle.markdown_reading.specs.Pages.{HaveText};
 
 use op_model::{CommentIds, Marks, Span, Text, Url};
 use std::alloc::{AllocError, Global};
 
 /// The marks of a character that is written.
-#[derive(Clone, Copy, Debug)]
+#[derive(Clone, Copy)]
 pub(crate) struct Style<'a> {
     pub strong: bool,
     pub em: bool,
@@ -52,7 +52,7 @@ impl<'a> Style<'a> {
 
 /// Spans that are being written: those that are whole, and the characters and marks of the last
 /// one. It has no characters where nothing was written.
-#[derive(Debug, Drop)]
+#[derive(Drop)]
 pub(crate) struct SpanWriter {
     whole: Vec<Span>,
     text: Vec<char>,

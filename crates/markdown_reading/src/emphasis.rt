@@ -11,14 +11,14 @@ const SORTS: usize = 12;
 type Floors = [usize; SORTS];
 
 /// What stands outside of a link.
-#[derive(Clone, Copy, Debug)]
+#[derive(Clone, Copy)]
 struct Outside {
     height: usize,
     floors: Floors,
 }
 
 /// The runs that may still begin emphasis.
-#[derive(Debug, Drop)]
+#[derive(Drop)]
 struct Waiting {
     /// The numbers of the runs, the latest one last.
     runs: Vec<usize>,

@@ -2,7 +2,7 @@
 use crate::characters::{is_sign, is_wide_space};
 
 /// A run of stars or underscores: what it may do, and what it did.
-#[derive(Clone, Copy, Debug, PartialEq, Eq)]
+#[derive(Clone, Copy, PartialEq, Eq)]
 pub(crate) struct Run {
     pub mark: char,
     /// How long it is.

@@ -3,7 +3,7 @@ use crate::characters::is_blank;
 use crate::scanning::{after, count_of, first, front, skip, trimmed, trimmed_end};
 
 /// Fences around code.
-#[derive(Clone, Copy, Debug, PartialEq, Eq)]
+#[derive(Clone, Copy, PartialEq, Eq)]
 pub(crate) struct Fence {
     pub mark: char,
     pub length: usize,
@@ -86,7 +86,7 @@ pub(crate) fn quoted(line: &[char]) -> Option<&[char]> {
 }
 
 /// The mark of a list's item.
-#[derive(Clone, Copy, Debug)]
+#[derive(Clone, Copy)]
 pub(crate) struct Marker<'a> {
     /// How many characters it has, with the spaces after it that are part of it.
     pub width: usize,

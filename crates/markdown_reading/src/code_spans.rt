@@ -5,7 +5,7 @@ use crate::scanning::{count_of, first, front};
 const LONGEST: usize = 80;
 
 /// Lengths of runs of backticks that are known not to come any more.
-#[derive(Clone, Copy, Debug)]
+#[derive(Clone, Copy)]
 pub(crate) struct Unclosed {
     is_missing: [bool; LONGEST],
 }

@@ -8,7 +8,7 @@ use std::alloc::{AllocError, Global};
 const DEEPEST: usize = 100;
 
 /// What a line may stand in.
-#[derive(Clone, Copy, Debug, PartialEq, Eq)]
+#[derive(Clone, Copy, PartialEq, Eq)]
 enum Container {
     Quote,
     /// An item: how far its text is indented, and whether it has some.
@@ -16,7 +16,7 @@ enum Container {
 }
 
 /// What the lines that come stand in.
-#[derive(Debug, Drop)]
+#[derive(Drop)]
 pub(crate) struct Containers {
     open: Vec<Container>,
 }

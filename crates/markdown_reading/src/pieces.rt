@@ -2,7 +2,7 @@
 use op_model::Url;
 
 /// A part of a paragraph, in the order of its source.
-#[derive(Clone, Copy, Debug, PartialEq, Eq)]
+#[derive(Clone, Copy, PartialEq, Eq)]
 pub(crate) enum Piece {
     /// A character that is shown.
     Shown(char),
@@ -15,7 +15,7 @@ pub(crate) enum Piece {
 }
 
 /// What became of a bracket that may begin a link.
-#[derive(Debug, Drop, PartialEq, Eq)]
+#[derive(Drop, PartialEq, Eq)]
 pub(crate) enum Bracket {
     /// It is shown as it was written.
     Text,

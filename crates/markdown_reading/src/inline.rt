@@ -13,7 +13,7 @@ use op_model::Url;
 use std::alloc::{AllocError, Global};
 
 /// What was read of a paragraph, and what is known of the rest.
-#[derive(Debug, Drop)]
+#[derive(Drop)]
 pub(crate) struct Inline {
     pub pieces: Vec<Piece>,
     pub runs: Vec<Run>,

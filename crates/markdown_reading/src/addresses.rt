@@ -2,7 +2,7 @@
 use crate::scanning::{after, first, front, skip};
 
 /// An address that was found: whether it is one of mail, its characters, and what is left.
-#[derive(Clone, Copy, Debug)]
+#[derive(Clone, Copy)]
 pub(crate) struct Shown<'a> {
     pub is_mail: bool,
     pub address: &'a [char],

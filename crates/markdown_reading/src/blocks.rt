@@ -1,6 +1,6 @@
 //! The blocks of a page, line by line.
 ghost use Rattle.std.specs.Prelude.{IfOk};
-ghost use Rattle.page_reading.specs.Pages.{HaveText};
+ghost use Rattle.markdown_reading.specs.Pages.{HaveText};
 
 use crate::block_starts::{
     Fence, fence_of, heading, is_blank_line, is_fence_end, is_rule, is_underline, marker_of, quoted,
@@ -19,7 +19,7 @@ use std::alloc::{AllocError, Global};
 const CODE_INDENT: usize = 4;
 
 /// A page of which lines were read.
-#[derive(Debug, Drop)]
+#[derive(Drop)]
 pub(crate) struct Blocks {
     containers: Containers,
     leaf: Leaf,

@@ -2,7 +2,7 @@
 use Rattle.std.specs.Prelude.{◌<◌, List, length, false, [], None}
 use Rattle.std.specs.List.{All}
 use Rattle.op_model.specs.declared.span.Span.{Span}
-use Rattle.page_reading.specs.declared.dropped.Dropped.{Dropped}
+use Rattle.markdown_reading.specs.declared.dropped.Dropped.{Dropped}
 use Rattle.op_model.specs.declared.mark.Marks.{Marks}
 
 -- no marks
