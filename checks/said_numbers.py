@@ -69,8 +69,7 @@ SAID = {
     "docs/PROTOCOL.md": PROTOCOL,
     "docs/OPERATING.md": OPERATING,
     "docs/DECISIONS.md": ("within {head_bytes:,} bytes, {head_fields} fields",),
-    "clients/python/README.md": CLIENTS,
-    "clients/js/README.md": CLIENTS,
+    "clients/README.md": CLIENTS,
     "clients/web/README.md": ("a daemon's {sessions} places",),
 }
 
