@@ -1,6 +1,6 @@
 //! Daemons that are met over sockets: what only threads can show.
 use crate::asking_checkpoint::AskingCheckpoint;
-use crate::test_daemons::{Ended, TURNS, Talk, new_disk, serve_disk, sockets};
+use crate::test_daemons::{Ended, TURNS, Talk, new_daemon, serve_disk, sockets};
 use crate::waiting_disk::{Meeting, WaitingDisk};
 use disk_trait::MemDisk;
 use serve_threads::Joined;
@@ -143,8 +143,7 @@ pub(crate) fn add_right<R: Wait + Net<Listener = TcpListener, Stream = TcpStream
 fn edit_in_a_commit<
     R: Wait + Clock + Threads + Net<Listener = TcpListener, Stream = TcpStream> + Sync,
 >(rt: &R, alloc: Global) -> Option<(usize, bool)> {
-    let disk = new_disk(alloc, 1)?;
-    let (sockets, port, _) = sockets(rt)?;
+    let (disk, sockets, port, _) = new_daemon(rt, alloc, 1)?;
     let checkpoint = AskingCheckpoint::new(rt, alloc, port, STATUS, BOTH_APPLIED);
     let right = Mutex::new(0);
     let (held, counted) = (&checkpoint, &right);
@@ -172,11 +171,11 @@ fn an_edit_is_taken_while_a_commit_is_under_way(rt: HostRuntime) -> Result<(), F
 fn ask_in_a_device_call<
     R: Wait + Clock + Threads + Net<Listener = TcpListener, Stream = TcpStream> + Sync,
 >(rt: &R, alloc: Global) -> Option<(usize, bool)> {
+    let (disk, sockets, port, _) = new_daemon(rt, alloc, 1)?;
     let meeting = Meeting::new();
-    let (sockets, port, _) = sockets(rt)?;
     let disk = WaitingDisk {
         rt,
-        disk: new_disk(alloc, 1)?,
+        disk,
         meeting: &meeting,
     };
     let right = Mutex::new(0);
@@ -209,8 +208,7 @@ fn edited<R: Wait + Clock + Threads + Net<Listener = TcpListener, Stream = TcpSt
     last: u8,
     insert: &'static str,
 ) -> Option<MemDisk> {
-    let disk = new_disk(alloc, last)?;
-    let (sockets, port, _) = sockets(rt)?;
+    let (disk, sockets, port, _) = new_daemon(rt, alloc, last)?;
     let right = Mutex::new(0);
     let counted = &right;
     let served = thread::scope(thread::scope_env(), rt, |scope| {

@@ -1,6 +1,6 @@
 //! Daemons whose device fails.
 use crate::daemon_tests::{FAILED, INSERT_A, INSERT_B, STATUS, STOP, TEXT, add_right};
-use crate::test_daemons::{Ended, count_settled, new_disk, serve_disk, sockets};
+use crate::test_daemons::{Ended, count_settled, new_daemon, serve_disk};
 use disk_trait::FaultDisk;
 use shared_hub::NoCheckpoint;
 use std::alloc::Global;
@@ -34,8 +34,8 @@ fn edit_over_a_failing_disk<
     ends_on_failure: bool,
 ) -> Option<(usize, bool, usize)> {
     // The calls of opening are a sync, a size and a read; the sixth one is the commit's first sync.
-    let disk = FaultDisk::new(new_disk(alloc, 1)?, 6);
-    let (mut sockets, port, _) = sockets(rt)?;
+    let (disk, mut sockets, port, _) = new_daemon(rt, alloc, 1)?;
+    let disk = FaultDisk::new(disk, 6);
     sockets.ends_on_failure = ends_on_failure;
     let right = Mutex::new(0);
     let counted = &right;

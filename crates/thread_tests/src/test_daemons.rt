@@ -101,6 +101,18 @@ pub fn sockets<R: Net<Listener = TcpListener, Stream = TcpStream>>(
     Some((sockets, at_sessions, at_peers))
 }
 
+/// The disk of a new replica, whose name ends in this byte, and where its daemon listens: its
+/// sockets, the sessions' port and the peers' port.
+pub fn new_daemon<R: Net<Listener = TcpListener, Stream = TcpStream>>(
+    rt: &R,
+    alloc: Global,
+    last: u8,
+) -> Option<(MemDisk, Sockets<'static>, u16, u16)> {
+    let disk = new_disk(alloc, last)?;
+    let (sockets, sessions, peers) = sockets(rt)?;
+    Some((disk, sockets, sessions, peers))
+}
+
 /// A session over a socket, which is asked line by line.
 #[derive(Drop)]
 pub struct Talk {

@@ -1,6 +1,6 @@
 //! What is told while a commit is under way, and what once it is settled, by `Read` and `Write`.
 use crate::daemon_tests::{REV_1, STOP, STOPPED, add_right};
-use crate::test_daemons::{new_disk, serve_disk, sockets};
+use crate::test_daemons::{new_daemon, serve_disk};
 use crate::waiting_disk::{Meeting, WaitingDisk};
 use shared_hub::NoCheckpoint;
 use std::alloc::Global;
@@ -147,11 +147,11 @@ fn told_to_all<R: Wait + Net<Listener = TcpListener, Stream = TcpStream>>(
 fn listen_in_a_commit<
     R: Wait + Clock + Threads + Net<Listener = TcpListener, Stream = TcpStream> + Sync,
 >(rt: &R, alloc: Global) -> Option<(usize, usize)> {
+    let (disk, sockets, port, peers) = new_daemon(rt, alloc, 1)?;
     let meeting = Meeting::new();
-    let (sockets, port, peers) = sockets(rt)?;
     let disk = WaitingDisk {
         rt,
-        disk: new_disk(alloc, 1)?,
+        disk,
         meeting: &meeting,
     };
     let (right, told) = (Mutex::new(0), Mutex::new(0));
