@@ -1,7 +1,8 @@
 //! Who is connected to a hub that threads share.
 ghost use Rattle.std.specs.Prelude.{◌≡◌};
 
-use crate::test_hubs::{first_pass, insert, replica, share};
+use crate::test_hubs::{insert, replica, share, take_pass};
+use disk_trait::MemDisk;
 use op_ids::Clock;
 use pass_books::BookNames;
 use shared_hub::{Named, Opened, Pass, Shared};
@@ -45,6 +46,18 @@ fn rows<J: BookNames, R: Wait>(
     Some((peers.len(), last.replica.bytes()[15], last.has, last.lacks))
 }
 
+/// Makes an operation.
+fn edit<J: BookNames, R: Wait>(
+    rt: &R,
+    alloc: Global,
+    shared: &Shared<J>,
+    pass: &mut Pass<J>,
+) -> Option<()> {
+    let edit = insert(alloc, 1)?;
+    shared.edit(rt, pass, &edit).ok()?;
+    Some(())
+}
+
 /// The rows beside two operations: with the second link, with the first one too, and once that has
 /// ended.
 fn rows_in_turn<J: BookNames, R: Wait>(
@@ -53,8 +66,8 @@ fn rows_in_turn<J: BookNames, R: Wait>(
     shared: &Shared<J>,
     pass: &mut Pass<J>,
 ) -> Option<[(usize, u8, u64, u64); 3]> {
-    shared.edit(rt, pass, &insert(alloc, 1)?).ok()?;
-    shared.edit(rt, pass, &insert(alloc, 1)?).ok()?;
+    edit(rt, alloc, shared, pass)?;
+    edit(rt, alloc, shared, pass)?;
     link(rt, shared, 1, 3, clock(alloc, 3, 4)?)?;
     let second = rows(rt, alloc, shared, pass)?;
     link(rt, shared, 0, 2, clock(alloc, 1, 1)?)?;
@@ -77,12 +90,11 @@ fn sessions<J: BookNames, R: Wait>(rt: &R, shared: &Shared<J>) -> [u64; 3] {
 fn rows_and_sessions<J: BookNames, R: Wait>(
     rt: &R,
     alloc: Global,
-    shared: &Shared<J>,
-    passes: Vec<Pass<J>>,
+    hub: &mut Named<J, MemDisk>,
 ) -> Option<([(usize, u8, u64, u64); 3], [u64; 3])> {
-    let mut pass = first_pass(passes)?;
-    let sessions = sessions(rt, shared);
-    Some((rows_in_turn(rt, alloc, shared, &mut pass)?, sessions))
+    let mut pass = take_pass(hub)?;
+    let sessions = sessions(rt, &hub.shared);
+    Some((rows_in_turn(rt, alloc, &hub.shared, &mut pass)?, sessions))
 }
 
 /// Those of a new replica's hub.
@@ -93,8 +105,8 @@ fn connected<J: BookNames, R: Wait>(
 ) -> Option<([(usize, u8, u64, u64); 3], [u64; 3])>
     requires { opened ≡ J.names }
 {
-    let Named { shared, passes, .. } = share::<J>(alloc, opened)?;
-    rows_and_sessions(rt, alloc, &shared, passes)
+    let mut hub = share::<J>(alloc, opened)?;
+    rows_and_sessions(rt, alloc, &mut hub)
 }
 
 #[test]

@@ -1,7 +1,7 @@
 //! How several documents of a hub that threads share are watched.
 ghost use Rattle.std.specs.Prelude.{◌≡◌};
 
-use crate::test_hubs::{first_pass, share};
+use crate::test_hubs::{share, take_pass};
 use crate::watch_tests::settle_edit;
 use disk_trait::MemDisk;
 use pass_books::BookNames;
@@ -79,10 +79,9 @@ fn told_beside<J: BookNames + Send + Sync, R: Wait + Clock + Threads + Sync>(
     rt: &R,
     alloc: Global,
     shared: &Shared<J>,
-    passes: Vec<Pass<J>>,
+    pass: Pass<J>,
     committer: &mut Committer<J, MemDisk>,
 ) -> Option<[[WatchedOf; 3]; 5]> {
-    let pass = first_pass(passes)?;
     let found = Mutex::new(None);
     let seen = &found;
     thread::scope(thread::scope_env(), rt, |scope| {
@@ -112,12 +111,11 @@ fn told_late<J: BookNames, R: Wait + Clock>(
 fn told_in_turn<J: BookNames + Send + Sync, R: Wait + Clock + Threads + Sync>(
     rt: &R,
     alloc: Global,
-    shared: &Shared<J>,
-    passes: Vec<Pass<J>>,
-    committer: &mut Committer<J, MemDisk>,
+    hub: &mut Named<J, MemDisk>,
 ) -> Option<([[WatchedOf; 3]; 5], [WatchedOf; 3])> {
-    let found = told_beside(rt, alloc, shared, passes, committer)?;
-    Some((found, told_late(rt, alloc, shared)?))
+    let pass = take_pass(hub)?;
+    let found = told_beside(rt, alloc, &hub.shared, pass, &mut hub.committer)?;
+    Some((found, told_late(rt, alloc, &hub.shared)?))
 }
 
 /// The same of a new hub.
@@ -128,12 +126,8 @@ fn all_told<J: BookNames + Send + Sync, R: Wait + Clock + Threads + Sync>(
 ) -> Option<([[WatchedOf; 3]; 5], [WatchedOf; 3])>
     requires { opened ≡ J.names }
 {
-    let Named {
-        shared,
-        mut committer,
-        passes,
-    } = share::<J>(alloc, opened)?;
-    told_in_turn(rt, alloc, &shared, passes, &mut committer)
+    let mut hub = share::<J>(alloc, opened)?;
+    told_in_turn(rt, alloc, &mut hub)
 }
 
 /// So many settled operations of a document.

@@ -1,12 +1,13 @@
 //! A hub that threads share.
 ghost use Rattle.std.specs.Prelude.{◌≡◌};
 
-use crate::test_hubs::{first_pass, insert, share};
+use crate::test_hubs::{insert, share, take_pass};
 use disk_trait::MemDisk;
 use pass_books::BookNames;
 use shared_hub::{Committer, Named, NoCheckpoint, Opened, Pass, Shared, flush};
 use std::alloc::Global;
 use std::marker::Brand;
+use std::mem;
 use std::rt::Clock;
 use std::sync::{Mutex, Wait};
 use std::test::Fail;
@@ -24,7 +25,8 @@ fn make_edits<R: Wait, J: BookNames>(
     pass: &mut Pass<J>,
 ) -> Option<u64> {
     for _ in 0..EDITS {
-        let ticket = shared.edit(rt, pass, &insert(alloc, 1)?).ok()?;
+        let edit = insert(alloc, 1)?;
+        let ticket = shared.edit(rt, pass, &edit).ok()?;
         if !shared.acknowledge(rt, pass, ticket) {
             return None;
         }
@@ -41,18 +43,34 @@ fn four_edit<J: BookNames + Send + Sync, R: Wait + Clock + Threads + Sync>(
 ) -> Option<(u64, usize)>
     requires { opened ≡ J.names }
 {
+    let mut hub = share::<J>(alloc, opened)?;
+    let made = all_edit_beside(rt, alloc, &mut hub);
+    Some((made, count_where_parts_fit(Box::into_inner(hub))?))
+}
+
+/// How many operations the list of a hub has, where its two parts fit.
+fn count_where_parts_fit<J: BookNames>(hub: Named<J, MemDisk>) -> Option<usize> {
     let Named {
         shared,
-        mut committer,
-        passes,
-    } = share::<J>(alloc, opened)?;
-    let made = edit_beside(rt, alloc, &shared, passes, &mut committer);
+        committer,
+        ..
+    } = hub;
     let locked = shared.end().into_locked();
     if locked.fits(&committer.into_flusher()) {
-        Some((made, locked.list().len()))
+        Some(locked.list().len())
     } else {
         None
     }
+}
+
+/// Four threads edit with the passes of a hub. Gives how many entries these have in all.
+fn all_edit_beside<J: BookNames + Send + Sync, R: Wait + Clock + Threads + Sync>(
+    rt: &R,
+    alloc: Global,
+    hub: &mut Named<J, MemDisk>,
+) -> u64 {
+    let passes = mem::replace(&mut hub.passes, Vec::new(alloc));
+    edit_beside(rt, alloc, &hub.shared, passes, &mut hub.committer)
 }
 
 /// Four threads edit while this one flushes. Gives how many entries their passes have in all.
@@ -110,15 +128,27 @@ fn waits_behind_the_end<J: BookNames, R: Wait>(
     rt: &R,
     alloc: Global,
     shared: &Shared<J>,
-    passes: Vec<Pass<J>>,
+    pass: &mut Pass<J>,
 ) -> Option<(bool, bool)> {
-    let mut pass = first_pass(passes)?;
-    let ticket = shared.edit(rt, &mut pass, &insert(alloc, 1)?).ok()?;
-    let is_acknowledged = shared.acknowledge(rt, &mut pass, ticket);
+    let edit = insert(alloc, 1)?;
+    let ticket = shared.edit(rt, pass, &edit).ok()?;
+    let is_acknowledged = shared.acknowledge(rt, pass, ticket);
     Some((is_acknowledged, shared.stop(rt)))
 }
 
-/// Ends the flusher, and then edits and stops.
+/// Ends the flusher of a hub, and then edits and stops.
+fn end_and_edit<J: BookNames, R: Wait + Clock>(
+    rt: &R,
+    alloc: Global,
+    hub: &mut Named<J, MemDisk>,
+) -> Option<(bool, bool)> {
+    hub.shared.close(rt);
+    flush(rt, &hub.shared, &mut hub.committer, &NoCheckpoint);
+    let mut pass = take_pass(hub)?;
+    waits_behind_the_end(rt, alloc, &hub.shared, &mut pass)
+}
+
+/// The same of a new hub.
 fn edit_behind_the_end<J: BookNames, R: Wait + Clock>(
     rt: &R,
     alloc: Global,
@@ -126,14 +156,8 @@ fn edit_behind_the_end<J: BookNames, R: Wait + Clock>(
 ) -> Option<(bool, bool)>
     requires { opened ≡ J.names }
 {
-    let Named {
-        shared,
-        mut committer,
-        passes,
-    } = share::<J>(alloc, opened)?;
-    shared.close(rt);
-    flush(rt, &shared, &mut committer, &NoCheckpoint);
-    waits_behind_the_end(rt, alloc, &shared, passes)
+    let mut hub = share::<J>(alloc, opened)?;
+    end_and_edit(rt, alloc, &mut hub)
 }
 
 #[test]

@@ -44,16 +44,19 @@ pub fn parts(alloc: Global) -> Option<Parts<MemDisk>>
     Some(parts)
 }
 
-/// A new hub under these books. A test hands its parts on at once: each way out past them is what
-/// the proof of a test costs.
-pub fn share<J: BookNames>(alloc: Global, opened: Opened) -> Option<Named<J, MemDisk>>
+/// A new hub under these books, in a box: what the proof of a test costs is each way out past a hub,
+/// and each place that it is moved to.
+pub fn share<J: BookNames>(alloc: Global, opened: Opened) -> Option<Box<Named<J, MemDisk>>>
     requires { opened ≡ J.names }
 {
     let parts = parts(alloc)?;
-    opened.share::<J, MemDisk>(alloc, parts).ok()
+    match opened.share::<J, MemDisk>(alloc, parts) {
+        Ok(hub) => Box::new(alloc, hub).ok(),
+        Err(_) => None,
+    }
 }
 
-/// The first of these passes.
-pub fn first_pass<J: BookNames>(passes: Vec<Pass<J>>) -> Option<Pass<J>> {
-    passes.into_iter().next()
+/// One of a hub's passes, which it hasn't any more.
+pub fn take_pass<J: BookNames>(hub: &mut Named<J, MemDisk>) -> Option<Pass<J>> {
+    hub.passes.pop()
 }

@@ -1,7 +1,7 @@
 //! How a document of a hub that threads share is watched.
 ghost use Rattle.std.specs.Prelude.{◌≡◌};
 
-use crate::test_hubs::{first_pass, insert, share};
+use crate::test_hubs::{insert, share, take_pass};
 use disk_trait::MemDisk;
 use pass_books::BookNames;
 use shared_hub::{Committer, Named, NoCheckpoint, Opened, Pass, Shared, Watched, flush};
@@ -24,7 +24,8 @@ pub fn settle_edit<J: BookNames, R: Wait>(
     pass: &mut Pass<J>,
     doc: u32,
 ) -> Option<()> {
-    let ticket = shared.edit(rt, pass, &insert(alloc, doc)?).ok()?;
+    let edit = insert(alloc, doc)?;
+    let ticket = shared.edit(rt, pass, &edit).ok()?;
     if !shared.acknowledge(rt, pass, ticket) {
         return None;
     }
@@ -96,14 +97,12 @@ fn after_the_end<J: BookNames, R: Wait + Clock>(rt: &R, shared: &Shared<J>) -> [
 fn watched_in_turn<J: BookNames + Send + Sync, R: Wait + Clock + Threads + Sync>(
     rt: &R,
     alloc: Global,
-    shared: &Shared<J>,
-    passes: Vec<Pass<J>>,
-    committer: &mut Committer<J, MemDisk>,
+    hub: &mut Named<J, MemDisk>,
 ) -> Option<([Watched; 2], [Watched; 3], [Watched; 2])> {
-    let mut pass = first_pass(passes)?;
-    let before = unsettled(rt, alloc, shared, &mut pass)?;
-    let found = watch_beside(rt, alloc, shared, pass, committer)?;
-    Some((before, found, after_the_end(rt, shared)))
+    let mut pass = take_pass(hub)?;
+    let before = unsettled(rt, alloc, &hub.shared, &mut pass)?;
+    let found = watch_beside(rt, alloc, &hub.shared, pass, &mut hub.committer)?;
+    Some((before, found, after_the_end(rt, &hub.shared)))
 }
 
 /// The same of a new hub.
@@ -114,12 +113,8 @@ fn all_watched<J: BookNames + Send + Sync, R: Wait + Clock + Threads + Sync>(
 ) -> Option<([Watched; 2], [Watched; 3], [Watched; 2])>
     requires { opened ≡ J.names }
 {
-    let Named {
-        shared,
-        mut committer,
-        passes,
-    } = share::<J>(alloc, opened)?;
-    watched_in_turn(rt, alloc, &shared, passes, &mut committer)
+    let mut hub = share::<J>(alloc, opened)?;
+    watched_in_turn(rt, alloc, &mut hub)
 }
 
 #[test]
