@@ -1,171 +1,204 @@
 //! Whether the first line of a session asks to be told of changes, and what is handed on else.
-use first_bytes::{FirstWatch, Watch};
-use session_lines::Watching;
-use std::alloc::Global;
-use std::io;
+use crate::rows::{Part, judged, made, shown};
+use crate::wires::{Wire, all_of};
+use first_bytes::FirstWatch;
+use std::alloc::{AllocError, Global};
 use std::io::Read;
 use std::test::Fail;
 
-/// Gives so many bytes at a time.
-#[derive(Drop)]
-struct Pieces<'a> {
-    rest: &'a [u8],
-    size: usize,
-}
+/// How many bytes are given at a time.
+const SIZES: [usize; 6] = [1, 2, 3, 24, 25, 1_000];
 
-impl<'a> Read for Pieces<'a> {
-    fn read(&mut self, buf: &mut [u8]) -> io::Result<usize> {
-        let count = self.rest.len().min(self.size).min(buf.len());
-        buf[..count].copy_from_slice(&self.rest[..count]);
-        self.rest = &self.rest[count..];
-        Ok(count)
-    }
-}
+const WATCH_7: &str = "Some(Watch { watching: One(7), is_followed: false })";
 
-static SIZES: [usize; 6] = [1, 2, 3, 24, 25, 1_000];
+/// What a row shows, what is said, how many bytes are given at a time, and the Debug text of the
+/// watch that is asked for, if one is.
+type Row = (
+    &'static str,
+    &'static [Part<'static>],
+    &'static [usize],
+    &'static str,
+);
 
-/// What asks to be told of changes of document 7.
-static WATCHES: [&str; 2] = [
-    "{\"op\":\"watch\",\"doc\":7}\n",
-    " { \"doc\" : 7, \"op\" : \"watch\" } \n",
-];
-
-/// Whether just this document is asked for, and whether more came right after that.
-fn is_of(asked: &Watch, doc: u32, is_followed: bool) -> bool {
-    let is_it = matches!(asked.watching, Watching::One(found) if found == doc);
-    is_it && asked.is_followed == is_followed
-}
-
-/// Whether this asks to be told of changes of document 7, given so many bytes at a time, and
-/// nothing of it is handed on.
-fn asks_for_7(alloc: Global, rest: &[u8], size: usize) -> Result<bool, Fail> {
-    let mut reader = FirstWatch::new(alloc, Pieces { rest, size });
-    let mut piece = [0; 64];
-    let first = reader.read(&mut piece)?;
-    let is_asked = reader
-        .take_watch()
-        .is_some_and(|asked| is_of(&asked, 7, false));
-    Ok(first == 0 && is_asked && reader.read(&mut piece)? == 0)
-}
-
-#[test]
-fn a_watch_is_told_by_the_first_line(rt: HostRuntime) -> Result<(), Fail> {
-    for said in &WATCHES {
-        for size in &SIZES {
-            assert!(rt;
-                asks_for_7(rt.alloc(), said.as_bytes(), *size)?,
-                "{size}: {said}"
-            );
-        }
-    }
-    Ok(())
-}
-
-#[test]
-fn a_watch_knows_what_comes_right_behind_it(rt: HostRuntime) -> Result<(), Fail> {
-    let rest = b"{\"op\":\"watch\",\"doc\":1}\n{";
-    let mut reader = FirstWatch::new(rt.alloc(), Pieces { rest, size: 1_000 });
-    assert_eq!(rt; reader.read(&mut [0; 8])?, 0);
-    let is_asked = reader
-        .take_watch()
-        .is_some_and(|asked| is_of(&asked, 1, true));
-    assert!(rt; is_asked);
-    assert!(rt; reader.is_watch());
-    assert!(rt; reader.take_watch().is_none());
-    Ok(())
-}
-
-/// What asks for something else: so many spaces, a text, and so many spaces.
-static OTHERS: [(usize, &str, usize); 8] = [
-    (0, "", 0),
-    (0, "{\"op\":\"watch\",\"doc\":1}", 0),
-    (0, "\n{\"op\":\"watch\",\"doc\":1}\n", 0),
-    (16_400, "{\"op\":\"watch\",\"doc\":1}\n", 0),
+static ROWS: [Row; 11] = [
     (
-        0,
-        "{\"op\":\"text\",\"doc\":1}\n{\"op\":\"watch\",\"doc\":1}\n",
-        16_400,
+        "a watch",
+        &[(b"{\"op\":\"watch\",\"doc\":7}\n", 1)],
+        &SIZES,
+        WATCH_7,
     ),
-    (0, "{\"op\":\"watch\",\"doc\":0}\n", 0),
-    (0, "{\"op\":\"watch\",\"docs\":[]}\n", 0),
-    (0, "{\"op\":\"watch\",\"doc\":1,\"rev\":0}\n", 0),
+    (
+        "a watch with spaces",
+        &[(b" { \"doc\" : 7, \"op\" : \"watch\" } \n", 1)],
+        &SIZES,
+        WATCH_7,
+    ),
+    (
+        "a watch, and more right behind it",
+        &[(b"{\"op\":\"watch\",\"doc\":1}\n{", 1)],
+        &[1_000],
+        "Some(Watch { watching: One(1), is_followed: true })",
+    ),
+    ("nothing", &[], &SIZES, "None"),
+    (
+        "no line feed",
+        &[(b"{\"op\":\"watch\",\"doc\":1}", 1)],
+        &SIZES,
+        "None",
+    ),
+    (
+        "an empty line before",
+        &[(b"\n{\"op\":\"watch\",\"doc\":1}\n", 1)],
+        &SIZES,
+        "None",
+    ),
+    (
+        "many spaces before",
+        &[(b" ", 16_400), (b"{\"op\":\"watch\",\"doc\":1}\n", 1)],
+        &SIZES,
+        "None",
+    ),
+    (
+        "another line before, and many spaces behind",
+        &[
+            (
+                b"{\"op\":\"text\",\"doc\":1}\n{\"op\":\"watch\",\"doc\":1}\n",
+                1,
+            ),
+            (b" ", 16_400),
+        ],
+        &SIZES,
+        "None",
+    ),
+    (
+        "document 0",
+        &[(b"{\"op\":\"watch\",\"doc\":0}\n", 1)],
+        &SIZES,
+        "None",
+    ),
+    (
+        "no documents",
+        &[(b"{\"op\":\"watch\",\"docs\":[]}\n", 1)],
+        &SIZES,
+        "None",
+    ),
+    (
+        "a field too many",
+        &[(b"{\"op\":\"watch\",\"doc\":1,\"rev\":0}\n", 1)],
+        &SIZES,
+        "None",
+    ),
 ];
 
-/// What is handed on of this, read so many bytes at a time. It asks for nothing.
-fn handed_on(alloc: Global, rest: &[u8], size: usize) -> Result<Vec<u8>, Fail> {
-    let mut reader = FirstWatch::new(alloc, Pieces { rest, size });
-    let mut found = Vec::new(alloc);
-    let mut piece = [0; 50];
-    for _ in 0..20_000 {
-        let count = reader.read(&mut piece)?;
-        if count == 0 {
-            break;
-        }
-        found.extend_from_slice(&piece[..count])?;
-    }
-    if reader.is_watch() {
-        return Err(Fail::from("a watch"));
-    }
-    Ok(found)
+/// Whether this is all that is handed on.
+fn is_handed_on(alloc: Global, reader: &mut FirstWatch<Wire>, due: &[u8]) -> Result<bool, Fail> {
+    let found = all_of(alloc, reader)?;
+    Ok(found.as_slice() == due)
 }
 
-/// A row's text.
-fn text_of(alloc: Global, row: &(usize, &str, usize)) -> Result<String, Fail> {
-    let before = " ".repeat(alloc, row.0)?;
-    let after = " ".repeat(alloc, row.2)?;
-    Ok(format!(in alloc; "{before}{}{after}", row.1)?)
+/// Whether the watch with this Debug text is asked for, just once.
+fn is_watch(alloc: Global, reader: &mut FirstWatch<Wire>, due: &str) -> Result<bool, Fail> {
+    let watch = reader.take_watch();
+    let shown = format!(in alloc; "{watch:?}")?;
+    Ok(shown.as_str() == due && reader.take_watch().is_none())
+}
+
+/// Whether this is handed on, the watch is asked for, and there is no more to read then.
+fn is_right(
+    alloc: Global,
+    reader: &mut FirstWatch<Wire>,
+    handed_on: &[u8],
+    due: &str,
+) -> Result<bool, Fail> {
+    let is_due = is_handed_on(alloc, reader, handed_on)? && is_watch(alloc, reader, due)?;
+    let is_over = reader.read(&mut [0; 8])? == 0;
+    Ok(is_due && is_over && reader.is_watch() == (due != "None"))
+}
+
+/// Whether this asks for the watch with this Debug text, given so many bytes at a time: then nothing
+/// is handed on, and all of it where it asks for none.
+fn is_asked(alloc: Global, said: &[u8], size: usize, due: &str) -> Result<bool, Fail> {
+    let mut reader = FirstWatch::new(alloc, Wire::new(alloc, said, size)?);
+    let handed_on = if due == "None" { said } else { b"" };
+    is_right(alloc, &mut reader, handed_on, due)
+}
+
+/// Whether that is so of what a row says, at this size.
+fn is_so(alloc: Global, row: &Row, size: usize) -> Result<bool, Fail> {
+    let (_, parts, _, due) = row;
+    let said = made(alloc, parts)?;
+    is_asked(alloc, &said, size, due)
 }
 
 #[test]
-fn anything_else_is_handed_on_byte_for_byte(rt: HostRuntime) -> Result<(), Fail> {
-    let alloc = rt.alloc();
-    for row in &OTHERS {
-        let said = text_of(alloc, row)?;
-        for size in &SIZES {
-            let found = handed_on(alloc, said.as_bytes(), *size)?;
-            assert!(rt; found.as_slice() == said.as_bytes(), "{size}: {said}");
+fn a_watch_is_told_by_the_first_line_and_all_else_handed_on(rt: HostRuntime) -> Result<(), Fail> {
+    for row in &ROWS {
+        for size in row.2.iter() {
+            judged(&rt, row.0, is_so(rt.alloc(), row, *size))?;
         }
     }
     Ok(())
 }
 
-/// A line that watches so many documents with numbers of ten digits.
-fn long_line(alloc: Global, count: u32) -> Result<String, Fail> {
-    let mut line = String::from_str(alloc, "{\"op\":\"watch\",\"docs\":[4000000000")?;
+/// So many numbers of ten digits.
+fn documents(alloc: Global, count: u32) -> Result<String, AllocError> {
+    let mut list = String::from_str(alloc, "4000000000")?;
     for i in 1..count {
         let doc = 4_000_000_000 + i as u64;
-        line.push_str(&format!(in alloc; ", {doc}")?)?;
+        list.push_str(&format!(in alloc; ", {doc}")?)?;
     }
-    line.push_str("]}\n")?;
-    Ok(line)
+    Ok(list)
 }
 
-/// Whether this is asked for: so many documents, from 4,000,000,000 on.
-fn are_asked(asked: &Watch, count: usize) -> bool {
-    match &asked.watching {
-        Watching::These(docs) => {
-            let docs = docs.as_slice();
-            docs.len() == count && docs.first() == Some(&4_000_000_000)
-        }
-        Watching::One(_) | Watching::All => false,
-    }
+/// What a row shows, how many documents are asked for, and how many bytes are given at a time. What
+/// stands before and behind the documents in the Debug text of the watch, and how often they do.
+type Many = (
+    &'static str,
+    u32,
+    &'static [usize],
+    &'static [u8],
+    usize,
+    &'static [u8],
+);
+
+static MANY: [Many; 2] = [
+    (
+        "1,024 documents",
+        1_024,
+        &[1, 100, 4_096, 20_000],
+        b"Some(Watch { watching: These(Numbers { numbers: [",
+        1,
+        b"] }), is_followed: false })",
+    ),
+    ("1,025 documents", 1_025, &[1_000], b"None", 0, b""),
+];
+
+/// So many times the same between two others.
+fn between<'a>(
+    alloc: Global,
+    before: &'a [u8],
+    docs: Part<'a>,
+    behind: &'a [u8],
+) -> Result<Vec<u8>, AllocError> {
+    made(alloc, &[(before, 1), docs, (behind, 1)])
+}
+
+/// Whether a line with so many documents asks for the watch that a row names, at this size.
+fn is_many(alloc: Global, row: &Many, size: usize) -> Result<bool, Fail> {
+    let (_, count, _, before, times, behind) = row;
+    let list = documents(alloc, *count)?;
+    let docs = list.as_bytes();
+    let line = between(alloc, b"{\"op\":\"watch\",\"docs\":[", (docs, 1), b"]}\n")?;
+    let due = between(alloc, before, (docs, *times), behind)?;
+    is_asked(alloc, &line, size, shown(&due))
 }
 
 #[test]
 fn as_many_documents_are_watched_as_a_file_has(rt: HostRuntime) -> Result<(), Fail> {
-    let alloc = rt.alloc();
-    let line = long_line(alloc, 1_024)?;
-    for size in [1, 100, 4_096, 20_000] {
-        let rest = line.as_bytes();
-        let mut reader = FirstWatch::new(alloc, Pieces { rest, size });
-        assert_eq!(rt; reader.read(&mut [0; 8])?, 0);
-        let is_asked = reader
-            .take_watch()
-            .is_some_and(|asked| are_asked(&asked, 1_024));
-        assert!(rt; is_asked, "{size}");
+    for row in &MANY {
+        for size in row.2.iter() {
+            judged(&rt, row.0, is_many(rt.alloc(), row, *size))?;
+        }
     }
-    let more = long_line(alloc, 1_025)?;
-    let found = handed_on(alloc, more.as_bytes(), 1_000)?;
-    assert!(rt; found.as_slice() == more.as_bytes());
     Ok(())
 }

@@ -2,6 +2,8 @@
 #![tactic(auto)]
 
 #[cfg(test)]
+mod answer_rows;
+#[cfg(test)]
 mod asking_tests;
 #[cfg(test)]
 mod edits_tests;
@@ -10,13 +12,13 @@ mod first_line_tests;
 #[cfg(test)]
 mod first_watch_tests;
 #[cfg(test)]
-mod guest_wires;
-#[cfg(test)]
-mod late_wire;
+mod guests;
 #[cfg(test)]
 mod place_tests;
 #[cfg(test)]
 mod request_tests;
+#[cfg(test)]
+mod rows;
 #[cfg(test)]
 mod saying_tests;
 #[cfg(test)]
@@ -32,6 +34,12 @@ mod web_from_tests;
 #[cfg(test)]
 mod web_guest_tests;
 #[cfg(test)]
+mod web_host_tests;
+#[cfg(test)]
 mod web_origin_tests;
 #[cfg(test)]
 mod web_tests;
+#[cfg(test)]
+mod web_writing_tests;
+#[cfg(test)]
+mod wires;

@@ -1,104 +1,230 @@
-//! How answers are said, in tests; and long ones.
-use list_counts::PeerCounts;
-use op_ids::ReplicaId;
-use op_model::{CommentIds, Marks, Span, Text, Url};
-use session_lines::{Answer, PeerList, SpanList, say};
-use std::alloc::{AllocError, Global};
-use std::process::Abort;
+//! How answers are said.
+use crate::answer_rows::{Marked, Step, Told, answer_of};
+use crate::rows::{Part, judged, made};
+use session_lines::{Answer, Refusal, State, say};
+use std::alloc::Global;
 use std::test::Fail;
 
-/// The characters of a text.
-pub fn text_of(alloc: Global, text: &str) -> Result<Text, AllocError> {
-    let characters: Vec<char> = text.chars().collect(alloc)?;
-    Ok(Text::from(characters))
-}
-
-/// The answer is put as this text behind what is there, and without memory not at all.
-pub fn said(rt: &impl Abort, alloc: Global, answer: &Answer, text: &str) {
-    let mut out = Vec::from_slice(alloc, b"before").expect(rt, "memory");
+/// Whether an answer is put as this text behind what is there, and without memory not at all.
+fn is_said(alloc: Global, answer: &Answer, text: &[u8]) -> Result<bool, Fail> {
+    let mut out = Vec::from_slice(alloc, b"before")?;
     if say(alloc, answer, &mut out).is_err() {
-        assert!(rt;
-            out.as_slice() == b"before".as_slice(),
-            "without memory: {text}"
-        );
-        say(alloc, answer, &mut out).expect(rt, "memory");
+        if out.as_slice() != b"before".as_slice() {
+            return Ok(false);
+        }
+        say(alloc, answer, &mut out)?;
     }
-    assert!(rt;
-        out.as_slice().strip_prefix(b"before") == Some(text.as_bytes()),
-        "{out:?}: {text}"
-    );
+    Ok(out.as_slice().strip_prefix(b"before") == Some(text))
 }
 
-#[test]
-fn peers_are_said(rt: HostRuntime) -> Result<(), Fail> {
-    let alloc = rt.alloc();
-    let none = PeerList::from(Vec::new(alloc));
-    let answer = Answer::Peers {
-        peers: none,
-        sessions: 1,
-    };
-    said(
-        &rt,
-        alloc,
-        &answer,
-        "{\"ok\":true,\"peers\":[],\"sessions\":1}\n",
-    );
-    let peers = vec![in alloc; peer(&rt, 1, 12, 0), peer(&rt, 2, 3, 9)]?;
-    let answer = Answer::Peers {
-        peers: PeerList::from(peers),
-        sessions: 32,
-    };
-    said(
-        &rt,
-        alloc,
-        &answer,
-        "{\"ok\":true,\"peers\":[{\"has\":12,\"lacks\":0,\"replica\":\"00000000-0000-0000-0000-000000000001\"},{\"has\":3,\"lacks\":9,\"replica\":\"00000000-0000-0000-0000-000000000002\"}],\"sessions\":32}\n",
-    );
-    Ok(())
-}
+const NO_MARKS: Marked = Marked {
+    strong: false,
+    em: false,
+    link: None,
+    comments: &[],
+};
 
-/// A peer whose replica's number is this.
-fn peer(rt: &impl Abort, number: u8, has: u64, lacks: u64) -> PeerCounts {
-    let mut bytes = [0; 16];
-    bytes[15] = number;
-    PeerCounts {
-        replica: ReplicaId::read(bytes).expect(rt, "not nil"),
-        has,
-        lacks,
-    }
-}
+/// All marks that a character can have at once.
+const ALL_MARKS: Marked = Marked {
+    strong: true,
+    em: true,
+    link: Some("u"),
+    comments: &[[0; 16]],
+};
 
 /// Characters of each kind that is written in its own way, and how they are written.
-const KINDS: &'static str = "a\"\\\n\u{1}é😀";
+const KINDS: &str = "a\"\\\n\u{1}é😀";
 
-const KINDS_SAID: &'static str = "a\\\"\\\\\\n\\u0001é😀";
+const KINDS_SAID: &[u8] = b"a\\\"\\\\\\n\\u0001\xc3\xa9\xf0\x9f\x98\x80";
+
+/// What an answer shows, how many operations there are, what is told, and how it is said.
+type Row = (&'static str, u64, Told, &'static [Part<'static>]);
+
+static ROWS: [Row; 18] = [
+    (
+        "an edit",
+        3,
+        Told::Edited,
+        &[(b"{\"ok\":true,\"rev\":3}\n", 1)],
+    ),
+    ("a stop", 0, Told::Stopped, &[(b"{\"ok\":true}\n", 1)]),
+    ("nothing", 0, Told::Done, &[(b"{\"ok\":true}\n", 1)]),
+    (
+        "the status",
+        0,
+        Told::Status(2, 0, State::Failed),
+        &[(
+            b"{\"applied\":2,\"ok\":true,\"settled\":0,\"state\":\"failed\"}\n",
+            1,
+        )],
+    ),
+    (
+        "a refusal",
+        0,
+        Told::Refused(Refusal::Limit),
+        &[(b"{\"code\":7,\"error\":\"limit\",\"ok\":false}\n", 1)],
+    ),
+    (
+        "a refusal says which edit it means",
+        0,
+        Told::RefusedAt(Refusal::Range, 2),
+        &[(
+            b"{\"at\":2,\"code\":5,\"error\":\"range\",\"ok\":false}\n",
+            1,
+        )],
+    ),
+    (
+        "the last edit that a number can mean",
+        0,
+        Told::RefusedAt(Refusal::Stopping, 18_446_744_073_709_551_615),
+        &[(
+            b"{\"at\":18446744073709551615,\"code\":12,\"error\":\"stopping\",\"ok\":false}\n",
+            1,
+        )],
+    ),
+    (
+        "an empty text",
+        0,
+        Told::Text("", 1),
+        &[(b"{\"ok\":true,\"rev\":0,\"text\":\"\"}\n", 1)],
+    ),
+    (
+        "a text",
+        5,
+        Told::Text("a\"\n\u{1}😀", 1),
+        &[(
+            b"{\"ok\":true,\"rev\":5,\"text\":\"a\\\"\\n\\u0001\xf0\x9f\x98\x80\"}\n",
+            1,
+        )],
+    ),
+    (
+        "a long text",
+        5,
+        Told::Text(KINDS, 700),
+        &[
+            (b"{\"ok\":true,\"rev\":5,\"text\":\"", 1),
+            (KINDS_SAID, 700),
+            (b"\"}\n", 1),
+        ],
+    ),
+    (
+        "spans with marks and without",
+        4,
+        Told::Spans(&[
+            (
+                "ab",
+                1,
+                Marked {
+                    strong: true,
+                    em: true,
+                    link: Some("u"),
+                    comments: &[
+                        [0, 0, 0, 0, 0, 0, 0, 0, 0, 0, 0, 0, 0, 0, 0, 0xc1],
+                        [0xab; 16],
+                    ],
+                },
+            ),
+            ("xc", 1, NO_MARKS),
+        ]),
+        &[(
+            b"{\"ok\":true,\"rev\":4,\"spans\":[{\"comments\":[\"00000000-0000-0000-0000-0000000000c1\",\"abababab-abab-abab-abab-abababababab\"],\"em\":true,\"link\":\"u\",\"strong\":true,\"text\":\"ab\"},{\"text\":\"xc\"}]}\n",
+            1,
+        )],
+    ),
+    (
+        "no spans",
+        0,
+        Told::Spans(&[]),
+        &[(b"{\"ok\":true,\"rev\":0,\"spans\":[]}\n", 1)],
+    ),
+    (
+        "a long span",
+        5,
+        Told::Spans(&[(
+            KINDS,
+            700,
+            Marked {
+                strong: true,
+                em: false,
+                link: Some(KINDS),
+                comments: &[],
+            },
+        )]),
+        &[
+            (b"{\"ok\":true,\"rev\":5,\"spans\":[{\"link\":\"", 1),
+            (KINDS_SAID, 1),
+            (b"\",\"strong\":true,\"text\":\"", 1),
+            (KINDS_SAID, 700),
+            (b"\"}]}\n", 1),
+        ],
+    ),
+    (
+        "no peers",
+        0,
+        Told::Peers(&[], 1),
+        &[(b"{\"ok\":true,\"peers\":[],\"sessions\":1}\n", 1)],
+    ),
+    (
+        "peers",
+        0,
+        Told::Peers(&[(1, 12, 0), (2, 3, 9)], 32),
+        &[(
+            b"{\"ok\":true,\"peers\":[{\"has\":12,\"lacks\":0,\"replica\":\"00000000-0000-0000-0000-000000000001\"},{\"has\":3,\"lacks\":9,\"replica\":\"00000000-0000-0000-0000-000000000002\"}],\"sessions\":32}\n",
+            1,
+        )],
+    ),
+    (
+        "places that last are said as they are read",
+        5,
+        Told::Anchors(
+            b"{\"op\":\"places\",\"doc\":3,\"anchors\":[\"start\",\"a1@00000000-0000-0000-0000-00000000000A\",\"b281474976710655@f0000000-0000-0000-0000-000000000001\",\"end\"]}",
+        ),
+        &[(
+            b"{\"anchors\":[\"start\",\"a1@00000000-0000-0000-0000-00000000000a\",\"b281474976710655@f0000000-0000-0000-0000-000000000001\",\"end\"],\"ok\":true,\"rev\":5}\n",
+            1,
+        )],
+    ),
+    (
+        "numbers of places",
+        20,
+        Told::Places(&[Some(7), None, Some(0)]),
+        &[(b"{\"ok\":true,\"places\":[7,null,0],\"rev\":20}\n", 1)],
+    ),
+    (
+        "changes",
+        20,
+        Told::Changes(&[
+            Step::Keep(4),
+            Step::Put("a\"", 1, NO_MARKS),
+            Step::Put("b", 1, ALL_MARKS),
+            Step::Go(3),
+            Step::Mark(9, NO_MARKS),
+            Step::Mark(2, ALL_MARKS),
+            Step::Keep(5),
+        ]),
+        &[(
+            b"{\"changes\":[{\"retain\":4},{\"insert\":\"a\\\"\"},{\"attributes\":{\"comments\":[\"00000000-0000-0000-0000-000000000000\"],\"em\":true,\"link\":\"u\",\"strong\":true},\"insert\":\"b\"},{\"delete\":3},{\"attributes\":{\"comments\":null,\"em\":null,\"link\":null,\"strong\":null},\"retain\":9},{\"attributes\":{\"comments\":[\"00000000-0000-0000-0000-000000000000\"],\"em\":true,\"link\":\"u\",\"strong\":true},\"retain\":2}],\"ok\":true,\"rev\":20}\n",
+            1,
+        )],
+    ),
+];
+
+/// Whether what a row tells is said as this text.
+fn is_told(alloc: Global, row: &Row, text: &[u8]) -> Result<bool, Fail> {
+    let answer = answer_of(alloc, row.1, &row.2)?;
+    is_said(alloc, &answer, text)
+}
+
+/// Whether the answer of a row is said as it stands there.
+fn is_so(alloc: Global, row: &Row) -> Result<bool, Fail> {
+    let text = made(alloc, row.3)?;
+    is_told(alloc, row, &text)
+}
 
 #[test]
-fn long_texts_are_said_whole(rt: HostRuntime) -> Result<(), Fail> {
-    let alloc = rt.alloc();
-    let all = KINDS.repeat(alloc, 700)?;
-    let inside = KINDS_SAID.repeat(alloc, 700)?;
-    let text = text_of(alloc, all.as_str())?;
-    let wanted = format!(in alloc; "{{\"ok\":true,\"rev\":5,\"text\":\"{inside}\"}}\n")?;
-    said(&rt, alloc, &Answer::Text { rev: 5, text }, wanted.as_str());
-    let span = Span {
-        text: text_of(alloc, all.as_str())?,
-        marks: Marks {
-            strong: true,
-            em: false,
-            link: Some(Url::new(String::from_str(alloc, KINDS)?).ok_or("empty")?),
-            comments: CommentIds::from(Vec::new(alloc)),
-        },
-    };
-    let spans = SpanList::from(vec![in alloc; span]?);
-    let wanted = format!(in alloc;
-        "{{\"ok\":true,\"rev\":5,\"spans\":[{{\"link\":\"{KINDS_SAID}\",\"strong\":true,\"text\":\"{inside}\"}}]}}\n"
-    )?;
-    said(
-        &rt,
-        alloc,
-        &Answer::Spans { rev: 5, spans },
-        wanted.as_str(),
-    );
+fn answers_are_said_whole(rt: HostRuntime) -> Result<(), Fail> {
+    for row in &ROWS {
+        judged(&rt, row.0, is_so(rt.alloc(), row))?;
+    }
     Ok(())
 }

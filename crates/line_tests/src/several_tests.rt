@@ -1,5 +1,7 @@
 //! What a session is told that watches several documents.
-use crate::watch_tests::Taking;
+use crate::rows::judged;
+use crate::watch_tests::taking;
+use std::alloc::Global;
 use std::test::Fail;
 use watch_lines::{LineRoom, NextOf, SeveralSource, serve_several};
 
@@ -76,17 +78,18 @@ static TOLD: [(&[NextOf], usize, &str); 6] = [
     ),
 ];
 
+/// Whether this is told while so many writes are taken, and the end is an error after one write.
+fn is_told(alloc: Global, rest: &[NextOf], writes: usize, said: &str) -> Result<bool, Fail> {
+    let mut room = LineRoom::new(alloc)?;
+    let mut writer = taking(alloc, writes)?;
+    let done = serve_several(alloc, &mut room, &mut writer, &mut Given { rest });
+    Ok(done.is_ok() == (writes > 1) && writer.told.as_slice() == said.as_bytes())
+}
+
 #[test]
 fn a_number_of_each_document_is_told_once_it_rises(rt: HostRuntime) -> Result<(), Fail> {
     for (rest, writes, said) in &TOLD {
-        let mut room = LineRoom::new(rt.alloc())?;
-        let mut writer = Taking {
-            bytes: Vec::new(rt.alloc()),
-            writes: *writes,
-        };
-        let done = serve_several(rt.alloc(), &mut room, &mut writer, &mut Given { rest });
-        assert!(rt; done.is_ok() == (*writes > 1), "{said}");
-        assert!(rt; writer.bytes.as_slice() == said.as_bytes(), "{said}");
+        judged(&rt, said, is_told(rt.alloc(), rest, *writes, said))?;
     }
     Ok(())
 }

@@ -1,8 +1,9 @@
 //! What a session is told that watches a document.
+use crate::rows::{is_found, judged, shown};
+use crate::wires::{Faults, Wire};
 use session_lines::{Refusal, watch_line};
-use std::alloc::Global;
-use std::io;
-use std::io::{ErrorKind, Write};
+use std::alloc::{AllocError, Global};
+use std::io::ErrorKind;
 use std::test::Fail;
 use watch_lines::{LineRoom, Next, Source, serve_watch};
 
@@ -28,32 +29,21 @@ impl<'a> Source for Given<'a> {
     }
 }
 
-/// Takes so many writes.
-#[derive(Drop)]
-pub(crate) struct Taking {
-    pub(crate) bytes: Vec<u8>,
-    pub(crate) writes: usize,
+/// A writer that takes so many writes, and keeps what they write.
+pub fn taking(alloc: Global, writes: usize) -> Result<Wire, AllocError> {
+    let mut writer = Wire::new(alloc, b"", 0)?;
+    writer.writes = Faults {
+        kind: ErrorKind::BrokenPipe,
+        left: writes,
+        again: 0,
+    };
+    Ok(writer)
 }
 
-impl Write for Taking {
-    fn write(&mut self, buf: &[u8]) -> io::Result<usize> {
-        if self.writes == 0 {
-            return Err(io::Error::from(ErrorKind::BrokenPipe));
-        }
-        self.writes -= 1;
-        self.bytes.extend_from_slice(buf)?;
-        Ok(buf.len())
-    }
-
-    fn flush(&mut self) -> io::Result<()> {
-        Ok(())
-    }
-}
-
-/// What a source gives, and what is said then.
-static TOLD: [(&[Next], &str); 5] = [
-    (&[], ""),
-    (&[Next::Rev(0)], "{\"ok\":true,\"rev\":0}\n"),
+/// What a source gives, how many writes are taken, and what is said then.
+static TOLD: [(&[Next], usize, &str); 6] = [
+    (&[], 9, ""),
+    (&[Next::Rev(0)], 9, "{\"ok\":true,\"rev\":0}\n"),
     (
         &[
             Next::Rev(3),
@@ -62,42 +52,37 @@ static TOLD: [(&[Next], &str); 5] = [
             Next::Rev(2),
             Next::Rev(7),
         ],
+        9,
         "{\"ok\":true,\"rev\":3}\n{\"ok\":true,\"rev\":7}\n",
     ),
     (
         &[Next::Rev(3), Next::Failed, Next::Rev(4)],
+        9,
         "{\"ok\":true,\"rev\":3}\n{\"code\":9,\"error\":\"failed\",\"ok\":false}\n",
     ),
-    (&[Next::Quiet, Next::Closed, Next::Rev(4)], ""),
+    (&[Next::Quiet, Next::Closed, Next::Rev(4)], 9, ""),
+    (
+        &[Next::Rev(1), Next::Rev(2), Next::Rev(3)],
+        1,
+        "{\"ok\":true,\"rev\":1}\n",
+    ),
 ];
 
-#[test]
-fn a_number_is_told_once_it_rises(rt: HostRuntime) -> Result<(), Fail> {
-    for (rest, said) in &TOLD {
-        let mut room = LineRoom::new(rt.alloc())?;
-        let mut writer = Taking {
-            bytes: Vec::new(rt.alloc()),
-            writes: 9,
-        };
-        serve_watch(rt.alloc(), &mut room, &mut writer, &mut Given { rest })?;
-        assert!(rt; writer.bytes.as_slice() == said.as_bytes(), "{said}");
-    }
-    Ok(())
+/// Whether this is told while so many writes are taken, and the end is an error after one write.
+fn is_told(alloc: Global, rest: &[Next], writes: usize, said: &str) -> Result<bool, Fail> {
+    let mut room = LineRoom::new(alloc)?;
+    let mut writer = taking(alloc, writes)?;
+    let done = serve_watch(alloc, &mut room, &mut writer, &mut Given { rest });
+    Ok(done.is_ok() == (writes > 1) && writer.told.as_slice() == said.as_bytes())
 }
 
-static RISING: [Next; 3] = [Next::Rev(1), Next::Rev(2), Next::Rev(3)];
-
 #[test]
-fn a_write_that_fails_ends_it(rt: HostRuntime) -> Result<(), Fail> {
-    let mut room = LineRoom::new(rt.alloc())?;
-    let mut writer = Taking {
-        bytes: Vec::new(rt.alloc()),
-        writes: 1,
-    };
-    let rest = RISING.as_slice();
-    let done = serve_watch(rt.alloc(), &mut room, &mut writer, &mut Given { rest });
-    assert!(rt; done.is_err());
-    assert!(rt; writer.bytes.as_slice() == b"{\"ok\":true,\"rev\":1}\n".as_slice());
+fn a_number_is_told_once_it_rises_and_none_after_a_failed_write(
+    rt: HostRuntime,
+) -> Result<(), Fail> {
+    for (rest, writes, said) in &TOLD {
+        judged(&rt, said, is_told(rt.alloc(), rest, *writes, said))?;
+    }
     Ok(())
 }
 
@@ -151,22 +136,11 @@ static LINES: [(&[u8], Result<&str, Refusal>); 22] = [
     ),
 ];
 
-/// What a line is read as: the documents that it watches, or why it is refused.
-fn read_so(alloc: Global, line: &[u8], found: &Result<&str, Refusal>) -> Result<bool, Fail> {
-    match (watch_line(alloc, line), found) {
-        (Ok(watching), Ok(shown)) => {
-            let text = format!(in alloc; "{watching:?}")?;
-            Ok(text.as_str() == *shown)
-        }
-        (Err(refusal), Err(wanted)) => Ok(refusal == *wanted),
-        _ => Ok(false),
-    }
-}
-
 #[test]
 fn a_line_that_watches_is_just_so(rt: HostRuntime) -> Result<(), Fail> {
-    for (line, found) in &LINES {
-        assert!(rt; read_so(rt.alloc(), line, found)?, "{line:?}");
+    for (line, due) in &LINES {
+        let found = watch_line(rt.alloc(), line);
+        judged(&rt, shown(line), is_found(rt.alloc(), found, *due))?;
     }
     Ok(())
 }

@@ -1,7 +1,8 @@
 //! From which web page a guest comes.
-use crate::guest_wires::Wire;
-use std::alloc::{AllocError, Global};
-use std::process::Abort;
+use crate::guests::{ASKING, origins};
+use crate::rows::{judged, made};
+use crate::wires::Wire;
+use std::alloc::Global;
 use std::test::Fail;
 use web_guests::{Guest, Origin, admit_from};
 
@@ -18,14 +19,6 @@ static FROM: [(&str, Option<&str>); 3] = [
     ),
 ];
 
-/// A head of a request for a WebSocket, with these fields too.
-fn head_with(alloc: Global, fields: &str) -> Result<String, AllocError> {
-    format!(in alloc; "GET / HTTP/1.1\r\nHost: localhost:8080\r\n{fields}{ASKING}\r\n")
-}
-
-const ASKING: &str = "Upgrade: websocket\r\nConnection: Upgrade\r\n\
-    Sec-WebSocket-Key: dGhlIHNhbXBsZSBub25jZQ==\r\nSec-WebSocket-Version: 13\r\n";
-
 /// Whether an origin has this text, or there is none and no text.
 fn is_due(origin: Option<&Origin>, due: Option<&str>) -> bool {
     match (origin, due) {
@@ -35,35 +28,34 @@ fn is_due(origin: Option<&Origin>, due: Option<&str>) -> bool {
     }
 }
 
-/// Whether a guest with these fields comes in, and this origin is told.
-fn comes_from(
-    alloc: Global,
-    fields: &str,
-    named: &[Origin],
-    due: Option<&str>,
-) -> Result<bool, AllocError> {
-    let head = head_with(alloc, fields)?;
-    let mut told = Vec::new(alloc);
-    let stream = Wire {
-        rest: head.as_bytes(),
-        size: 8_192,
-        told: &mut told,
-    };
-    match admit_from(alloc, stream, 8_080, named, None) {
-        Ok(Guest { origin, .. }) => Ok(is_due(origin, due)),
-        Err(_) => Ok(false),
+/// Whether a guest comes in, and this origin is told.
+fn comes_in(alloc: Global, guest: &mut Wire, named: &[Origin], due: Option<&str>) -> bool {
+    match admit_from(alloc, guest, 8_080, named, None) {
+        Ok(Guest { origin, .. }) => is_due(origin, due),
+        Err(_) => false,
     }
+}
+
+/// Whether a guest with these fields comes in, and this origin is told.
+fn comes_from(alloc: Global, fields: &str, due: Option<&str>) -> Result<bool, Fail> {
+    let named = origins(alloc, &["http://localhost:3000", "https://page.example"])?;
+    let head = made(
+        alloc,
+        &[
+            (b"GET / HTTP/1.1\r\nHost: localhost:8080\r\n", 1),
+            (fields.as_bytes(), 1),
+            (ASKING, 1),
+            (b"\r\n", 1),
+        ],
+    )?;
+    let mut guest = Wire::new(alloc, &head, 8_192)?;
+    Ok(comes_in(alloc, &mut guest, &named, due))
 }
 
 #[test]
 fn the_named_origin_is_told(rt: HostRuntime) -> Result<(), Fail> {
-    let alloc = rt.alloc();
-    let named = [
-        Origin::new(alloc, "http://localhost:3000")?,
-        Origin::new(alloc, "https://page.example")?,
-    ];
     for (fields, due) in &FROM {
-        assert!(rt; comes_from(alloc, fields, &named, *due)?, "{fields}");
+        judged(&rt, fields, comes_from(rt.alloc(), fields, *due))?;
     }
     Ok(())
 }

@@ -1,9 +1,21 @@
 //! Which texts are taken for origins of web pages.
+use crate::rows::judged;
 use std::alloc::Global;
 use std::test::Fail;
 use web_guests::{BadOrigin, Origin};
 
-static ORIGINS: [&str; 7] = [
+/// An origin of as many bytes as one has at most, and a text of one more.
+const LONGEST: &str =
+    "http://aaaaaaaaaaaaaaaaaaaaaaaaaaaaaaaaaaaaaaaaaaaaaaaaaaaaaaaaaaaaaaaaaaaaaaaaaaaaaaaaaaaaaaaaaaaaaaaaaaaaaaaaaaaaaaaaaaaaaaaaaaaaaaaaaaaaaaaaaaaaaaaaaaaaaaaaaaaaaaaaaaaaaaaaaaaaaaaaaaaaaaaaaaaaaaaaaaaaaaaaaaaaaaaaaaaaaaaaaaaaaaaaaaaaaaaaaaaaaaaaaaaaaaaa";
+
+const TOO_LONG: &str =
+    "http://aaaaaaaaaaaaaaaaaaaaaaaaaaaaaaaaaaaaaaaaaaaaaaaaaaaaaaaaaaaaaaaaaaaaaaaaaaaaaaaaaaaaaaaaaaaaaaaaaaaaaaaaaaaaaaaaaaaaaaaaaaaaaaaaaaaaaaaaaaaaaaaaaaaaaaaaaaaaaaaaaaaaaaaaaaaaaaaaaaaaaaaaaaaaaaaaaaaaaaaaaaaaaaaaaaaaaaaaaaaaaaaaaaaaaaaaaaaaaaaaaaaaaaaaa";
+
+const _: () = prove!(LONGEST.len() == 255);
+
+const _: () = prove!(TOO_LONG.len() == 256);
+
+const ORIGINS: [&str; 8] = [
     "http://localhost:3000",
     "https://example.com",
     "http://example.com:443",
@@ -11,9 +23,10 @@ static ORIGINS: [&str; 7] = [
     "http://127.0.0.1:1",
     "http://a_b.example:65535",
     "chrome-extension://abcdefghijklmnop",
+    LONGEST,
 ];
 
-static OTHERS: [&str; 27] = [
+const OTHERS: [&str; 28] = [
     "",
     "null",
     "*",
@@ -41,46 +54,26 @@ static OTHERS: [&str; 27] = [
     "://localhost",
     "1http://localhost",
     "http://b\u{fc}cher.example",
+    TOO_LONG,
 ];
+
+/// Texts, and whether they are origins.
+static TEXTS: [(&[&str], bool); 2] = [(&ORIGINS, true), (&OTHERS, false)];
+
+/// Whether a text is an origin, as it stands there, or is refused.
+fn is_so(alloc: Global, text: &str, is_origin: bool) -> bool {
+    match Origin::new(alloc, text) {
+        Ok(origin) => is_origin && origin.as_str() == text,
+        Err(refusal) => !is_origin && refusal == BadOrigin::NotAnOrigin,
+    }
+}
 
 #[test]
 fn an_origin_is_written_as_browsers_do(rt: HostRuntime) -> Result<(), Fail> {
-    for text in &ORIGINS {
-        let origin = Origin::new(rt.alloc(), text)?;
-        assert_eq!(rt; origin.as_str(), *text);
-    }
-    for text in &OTHERS {
-        let refused = Origin::new(rt.alloc(), text).err();
-        assert_eq!(rt; refused, Some(BadOrigin::NotAnOrigin), "{text}");
-    }
-    Ok(())
-}
-
-/// How many letters a host has, and why its origin is refused.
-static LENGTHS: [(usize, Option<BadOrigin>); 2] = [
-    (248, None),
-    (249, Some(BadOrigin::NotAnOrigin)),
-];
-
-/// An origin whose host has so many letters.
-fn long_origin(alloc: Global, letters: usize) -> Result<String, Fail> {
-    let host = "a".repeat(alloc, letters)?;
-    Ok(format!(in alloc; "http://{host}")?)
-}
-
-/// Why it is refused, if it is.
-fn refusal_of(alloc: Global, letters: usize) -> Result<Option<BadOrigin>, Fail> {
-    let text = long_origin(alloc, letters)?;
-    if text.len() != letters.saturating_add(7) {
-        return Err("another length".into());
-    }
-    Ok(Origin::new(alloc, text.as_str()).err())
-}
-
-#[test]
-fn an_origin_has_255_bytes_at_most(rt: HostRuntime) -> Result<(), Fail> {
-    for (letters, outcome) in &LENGTHS {
-        assert_eq!(rt; refusal_of(rt.alloc(), *letters)?, *outcome, "{letters}");
+    for (texts, is_origin) in &TEXTS {
+        for text in texts.iter() {
+            judged(&rt, text, Ok(is_so(rt.alloc(), text, *is_origin)))?;
+        }
     }
     Ok(())
 }
