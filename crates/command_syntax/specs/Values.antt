@@ -23,9 +23,18 @@ abbrev pub decimal_of : List ℕ → Option ℕ
 decimal_of text =
     if is_decimal text && nat_lt (digits_value 10 text) (2 ^ 32) then Some (digits_value 10 text) else None
 
+-- a number in decimal digits, from 1 to 2^32 - 1
+abbrev pub from_one_of : List ℕ → Option ℕ
+from_one_of text = option_and_then above_zero (decimal_of text)
+
 -- the number of a document in decimal digits, from 1 to 2^32 - 1
 abbrev pub doc_of : List ℕ → Option ℕ
-doc_of text = option_and_then above_zero (decimal_of text)
+doc_of text = from_one_of text
+
+-- how many operations a version has at most, from 1 to 2^32 - 1: where it isn't named, the greatest of these
+abbrev pub every_of : Option (List ℕ) → Option ℕ
+every_of None = Some 4294967295
+every_of (Some text) = from_one_of text
 
 -- a number that a port may have
 abbrev pub as_port : ℕ → Option ℕ

@@ -3,6 +3,7 @@ use crate::ask_order::AskOrder;
 use crate::check_order::CheckOrder;
 use crate::dump_order::DumpOrder;
 use crate::export_order::ExportOrder;
+use crate::history_order::HistoryOrder;
 use crate::import_order::ImportOrder;
 use crate::list_order::ListOrder;
 use crate::serve_order::ServeOrder;
@@ -21,6 +22,8 @@ pub enum Order<'a> {
     Check(CheckOrder<'a>),
     /// A document of a file for other programs, in the same way.
     Export(ExportOrder<'a>),
+    /// The versions of a document of a file, in the same way.
+    History(HistoryOrder<'a>),
     /// A page that is put into a document of a file.
     Import(ImportOrder<'a>),
     /// What is done over a file and sockets.

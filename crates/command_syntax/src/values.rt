@@ -2,8 +2,9 @@
 ghost use Rattle.std.specs.Prelude.{◌≡◌, option_map};
 ghost use Rattle.std.specs.List.{list_all};
 ghost use Rattle.std.specs.Char.{is_ascii_digit};
-ghost use Rattle.command_syntax.specs.Values.{decimal_of, doc_of, form_of, port_of, replica_of};
+ghost use Rattle.command_syntax.specs.Values.{decimal_of, doc_of, every_of, form_of, from_one_of};
 ghost use Rattle.command_syntax.specs.Values.{optional_number_of, optional_port_of};
+ghost use Rattle.command_syntax.specs.Values.{port_of, replica_of};
 
 use op_ids::ReplicaId;
 use span_export::Form;
@@ -13,9 +14,17 @@ use uuid::Uuid;
 pub fn doc(text: &str) -> Option<u32>
     ensures { result ≡ doc_of text.now }
 {
-    match number(text) {
-        Some(0) | None => None,
-        Some(doc) => Some(doc),
+    from_one(text)
+}
+
+/// How many operations a version has at most, in decimal digits, from 1 to 2^32 - 1. Where it isn't
+/// named, it is the greatest of these.
+pub fn every(text: Option<&str>) -> Option<u32>
+    ensures { result ≡ every_of (option_map (λ text. text.now) text.entry) }
+{
+    match text {
+        None => Some(u32::MAX),
+        Some(text) => from_one(text),
     }
 }
 
@@ -61,6 +70,16 @@ pub fn form(name: Option<&str>, breaks: bool) -> Option<Form>
     match name {
         None => Some(Form::Text),
         Some(name) => Form::named(name, breaks),
+    }
+}
+
+/// A number in decimal digits, from 1 to 2^32 - 1.
+fn from_one(text: &str) -> Option<u32>
+    ensures { result ≡ from_one_of text.now }
+{
+    match number(text) {
+        Some(0) | None => None,
+        Some(number) => Some(number),
     }
 }
 

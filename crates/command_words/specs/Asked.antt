@@ -6,7 +6,7 @@ use Rattle.std.specs.Str.{bytes_eq}
 use Rattle.std.specs.Borrow.{Bor}
 use Rattle.clap.specs.Walk.{Row, first_of, all_of}
 use Rattle.clap.specs.Simple.{subcommand_of}
-use Rattle.command_syntax.specs.Values.{replica_of, doc_of, form_of, port_of, optional_number_of, optional_port_of}
+use Rattle.command_syntax.specs.Values.{replica_of, doc_of, every_of, form_of, port_of, optional_number_of, optional_port_of}
 use Rattle.command_syntax.specs.Few.{as_few, texts_of}
 use Rattle.program_commands.specs.Program.{program}
 use Rattle.span_export.specs.declared.exporting.Form.{Form}
@@ -20,9 +20,10 @@ use Rattle.command_syntax.specs.declared.web_order.WebOrder.{WebOrder}
 use Rattle.command_syntax.specs.declared.bad_port.BadPort.{BadPort}
 
 -- a session in memory, a new store of a replica, a session over a store, a document of a store, all its documents, what its opening finds,
--- one of them, as it is or as it was when it had so many operations, in a form for other programs, a page in a form for one of them, or a store served at a port for sessions and one for peers, with the port of a peer to join where one is
--- named, a port for WebSockets and the origins that may open them where there is one, to its end or until the device failed, with its events
--- written or not, and told once it listens or not; or lines for the daemon at a port
+-- one of them, as it is or as it was when it had so many operations, in a form for other programs, its versions of at most so many operations
+-- each, a page in a form for one of them, or a store served at a port for sessions and one for peers, with the port of a peer to join where
+-- one is named, a port for WebSockets and the origins that may open them where there is one, to its end or until the device failed, with its
+-- events written or not, and told once it listens or not; or lines for the daemon at a port
 pub data Asked : Type 0 where
   in_memory : Asked
   init : List ℕ → ℕ → Asked
@@ -31,6 +32,7 @@ pub data Asked : Type 0 where
   list : List ℕ → Asked
   check : List ℕ → Asked
   export : List ℕ → ℕ → Option ℕ → Form → Asked
+  history : List ℕ → ℕ → ℕ → Asked
   import : List ℕ → ℕ → PageForm → Asked
   serve : List ℕ → ℕ → ℕ → Option ℕ → Option (ℕ × List (List ℕ)) → Bool → Bool → Bool → Asked
   ask : ℕ → List (List ℕ) → Asked
@@ -52,6 +54,7 @@ meant (order.Dump order) = dump order.file.now order.doc
 meant (order.List order) = list order.file.now
 meant (order.Check order) = check order.file.now
 meant (order.Export order) = export order.file.now order.doc order.at_rev order.form
+meant (order.History order) = history order.file.now order.doc order.every
 meant (order.Import order) = import order.file.now order.doc order.form
 meant (order.Serve order) =
     serve order.file.now order.sessions order.peers order.link (option_map meant_of_web order.web) order.ends_on_failure order.logs
@@ -97,6 +100,14 @@ export_of rows =
     option_and_then (λ file. option_and_then (λ doc. option_and_then (λ at_rev. option_map (export file doc at_rev)
     (form_of (first_of (codes "to") rows) (is_flag_given (codes "breaks") rows)))
     (optional_number_of (first_of (codes "at-rev") rows)))
+    (option_and_then doc_of (first_of (codes "DOC") rows)))
+    (first_of (codes "FILE") rows)
+
+-- a `history` with the values of its arguments
+abbrev pub history_of : List Row → Option Asked
+history_of rows =
+    option_and_then (λ file. option_and_then (λ doc. option_map (history file doc)
+    (every_of (first_of (codes "every") rows)))
     (option_and_then doc_of (first_of (codes "DOC") rows)))
     (first_of (codes "FILE") rows)
 
@@ -150,6 +161,7 @@ asked_of name rows =
     else if bytes_eq name (codes "list") then list_of rows
     else if bytes_eq name (codes "check") then check_of rows
     else if bytes_eq name (codes "export") then export_of rows
+    else if bytes_eq name (codes "history") then history_of rows
     else if bytes_eq name (codes "import") then import_of rows
     else if bytes_eq name (codes "serve") then serve_of rows
     else if bytes_eq name (codes "ask") then ask_of rows

@@ -6,7 +6,7 @@ ghost use Rattle.command_words.specs.declared.order_fault.OrderFault.TheVariants
 ghost use Rattle.program_commands.specs.Program.{program};
 ghost use Rattle.command_words.specs.Asked.{texts, meant, asked, asked_of, init_of, edit_of, dump_of, serve_of};
 ghost use Rattle.command_words.specs.Asked.{list_of, check_of, export_of, ask_of, meant_of_web, web_at};
-ghost use Rattle.command_words.specs.Asked.{import_of};
+ghost use Rattle.command_words.specs.Asked.{import_of, history_of};
 ghost use Rattle.command_words.specs.Asked.{told, bad_port_of, bad_port_at, is_flag_given};
 ghost use Rattle.command_words.specs.Faults.{RefusedBy, BreaksRule, TellsOf};
 
@@ -14,8 +14,9 @@ use crate::order_fault::OrderFault;
 use clap::ArgMatches;
 use clap::error::ErrorKind;
 use command_syntax::{
-    AskOrder, BadPort, CheckOrder, DumpOrder, ExportOrder, FewTexts, ImportOrder, ListOrder, Order,
-    ServeOrder, StoreOrder, WebOrder, doc, form, optional_number, optional_port, port, replica,
+    AskOrder, BadPort, CheckOrder, DumpOrder, ExportOrder, FewTexts, HistoryOrder, ImportOrder,
+    ListOrder, Order, ServeOrder, StoreOrder, WebOrder, doc, every, form, optional_number,
+    optional_port, port, replica,
 };
 use page_reading::PageForm;
 use program_commands::commands;
@@ -23,8 +24,7 @@ use std::alloc::Global;
 
 /// What the words of a command line ask for, of which the first is the program's name. `Usage`
 /// where they aren't those of a command, or ask for help. `Port` where a port breaks its rule, and
-/// `Field` (4) where a UUID, a document number or a form does. `Memory` (1) where a growth was
-/// refused.
+/// `Field` (4) where a UUID, a number or a form does. `Memory` (1) where a growth was refused.
 pub fn order<'a>(alloc: Global, words: &'a [&'a str]) -> Result<Order<'a>, OrderFault<'a>>
     ensures taken { OnOk result (fault_of program (texts words.entry.now) ≡ []) }
     ensures ok { IfOk result (λ order. asked (texts words.entry.now) ≡ Some (meant order)) }
@@ -70,6 +70,7 @@ fn command_order<'a>(name: &str, matches: &ArgMatches<'a>) -> Option<Order<'a>>
         "list" => list(matches),
         "check" => check(matches),
         "export" => export(matches),
+        "history" => history(matches),
         "import" => import(matches),
         "serve" => serve(matches),
         "ask" => ask(matches),
@@ -133,6 +134,16 @@ fn export<'a>(matches: &ArgMatches<'a>) -> Option<Order<'a>>
         at_rev,
         form,
     }))
+}
+
+/// The order of a `history`.
+fn history<'a>(matches: &ArgMatches<'a>) -> Option<Order<'a>>
+    ensures { option_map meant result ≡ history_of (rows_of (found_of matches.now)) }
+{
+    let file = value(matches, "FILE")?;
+    let doc = doc(value(matches, "DOC")?)?;
+    let every = every(value(matches, "every"))?;
+    Some(Order::History(HistoryOrder { file, doc, every }))
 }
 
 /// The order of an `import`.

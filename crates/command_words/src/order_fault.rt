@@ -16,7 +16,7 @@ pub enum OrderFault<'a> {
     /// A word that is no port. It ends the program as words that `clap` refuses do.
     #[error("{0}")]
     Port(BadPort<'a>),
-    /// 4: a UUID, a document number or a form breaks its rule.
+    /// 4: a UUID, a number or a form breaks its rule.
     #[error("field")]
     Field,
     /// 1: a growth was refused.

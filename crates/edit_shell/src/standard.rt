@@ -16,7 +16,7 @@ use std::rt::{Clock, Env, Files};
 use std::sync::Wait;
 use std::thread::Threads;
 use std::{env, io};
-use store_orders::{Ended, Fault, check, dump, export_from, list, perform};
+use store_orders::{Ended, Fault, check, dump, export_from, list, perform, print_versions};
 
 /// The bytes of a store in memory.
 const ROOM: usize = 1_048_576;
@@ -176,22 +176,11 @@ fn run_held<
 >(rt: &R, order: &Order<'_>, output: &mut W, faults: &mut F) -> u8 {
     match order {
         Order::Store(order) => run_on_disk(rt, order, output, faults),
-        Order::Dump(order) => {
-            let end = dump(rt, *order, output);
-            tell(rt, end, order.file, Purpose::Reading, faults)
-        }
-        Order::List(order) => {
-            let end = list(rt, *order, output);
-            tell(rt, end, order.file, Purpose::Reading, faults)
-        }
-        Order::Check(order) => {
-            let end = check(rt, *order, output);
-            tell(rt, end, order.file, Purpose::Reading, faults)
-        }
-        Order::Export(order) => {
-            let end = export_from(rt, *order, output);
-            tell(rt, end, order.file, Purpose::Reading, faults)
-        }
+        Order::Dump(order) => looked(rt, dump(rt, *order, output), order.file, faults),
+        Order::List(order) => looked(rt, list(rt, *order, output), order.file, faults),
+        Order::Check(order) => looked(rt, check(rt, *order, output), order.file, faults),
+        Order::Export(order) => looked(rt, export_from(rt, *order, output), order.file, faults),
+        Order::History(order) => looked(rt, print_versions(rt, *order, output), order.file, faults),
         Order::Import(order) => {
             let end = import_into(rt, *order, output);
             tell_import(rt, end, order.file, faults)
@@ -202,6 +191,16 @@ fn run_held<
         }
         Order::Ask(order) => ask(rt, *order, output, faults),
     }
+}
+
+/// Tells how a look at a file ended.
+fn looked<R: Files<File = File> + AllocGlobal, F: Write + IsTerminal>(
+    rt: &R,
+    end: Result<(), Fault>,
+    file: &str,
+    faults: &mut F,
+) -> u8 {
+    tell(rt, end, file, Purpose::Reading, faults)
 }
 
 /// Does what an order over one disk asks for, over the disk that it names.

@@ -1,17 +1,19 @@
 //! What the locked part tells of itself.
-ghost use Rattle.std.specs.Prelude.{◌≡◌, IfOk, IfSome, is_some, take};
+ghost use Rattle.std.specs.Prelude.{◌≡◌, IfOk, IfSome, is_some, option_map, take};
 ghost use Rattle.list_counts.specs.Documents.{all_counted, held_room};
+ghost use Rattle.list_counts.specs.Versions.{versions as versions_of};
 ghost use Rattle.op_model.specs.Causality.{clock_of};
 ghost use Rattle.op_model.specs.Machine.{known_ticket};
 ghost use Rattle.op_model.specs.Spans.{spans as spans_of};
 ghost use Rattle.op_model.specs.Text.{text as text_of, rev as rev_of};
 ghost use Rattle.replica_core.specs.Held.{IsSound};
 ghost use Rattle.replica_core.specs.Changed.{TellsChanges};
+ghost use Rattle.replica_core.specs.Past.{spans_past, text_past};
 ghost use Rattle.replica_core.specs.Places.{anchors_of, are_within, places_of};
 ghost use Rattle.replica_core.specs.RefusedAt.{refused_at as refused_at_of};
 
 use crate::locked::Locked;
-use list_counts::{DocumentCounts, Room};
+use list_counts::{DocumentCounts, Room, Version};
 use op_ids::{Clock, ReplicaId};
 use op_model::{Action, ChangeStep, Lasting, Neighbour, Span, Text};
 use replica_core::Ticket;
@@ -147,6 +149,31 @@ impl Locked {
         ensures { IfOk result (λ found. found.items ≡ spans_of self.now.replica.list doc) }
     {
         self.replica.spans(doc)
+    }
+
+    /// The text of a document as it was when it had `rev` operations, the first ones in this list.
+    /// `None` if it has fewer. An error is out of memory (1). Costs what `Replica::text_at` does.
+    pub fn text_at(&self, doc: u32, rev: usize) -> Result<Option<Text>, AllocError>
+        ensures { IfOk result (λ found. found ≡ text_past self.now.replica.list doc rev) }
+    {
+        self.replica.text_at(doc, rev)
+    }
+
+    /// The spans of a document as it was likewise. Costs what `Replica::spans_at` does.
+    pub fn spans_at(&self, doc: u32, rev: usize) -> Result<Option<Vec<Span>>, AllocError>
+        ensures { IfOk result (λ found. option_map (λ v. v.items) found
+            ≡ spans_past self.now.replica.list doc rev) }
+    {
+        self.replica.spans_at(doc, rev)
+    }
+
+    /// The versions of a document, unsettled operations included, of at most `every` operations
+    /// each. An error is out of memory (1). Costs what `Replica::versions` does.
+    pub fn versions(&self, doc: u32, every: u32) -> Result<Vec<Version>, AllocError>
+        ensures { IfOk result
+            (λ found. found.items ≡ versions_of self.now.replica.list doc every) }
+    {
+        self.replica.versions(doc, every)
     }
 
     /// What changed in a document, unsettled operations included, since it had so many operations,

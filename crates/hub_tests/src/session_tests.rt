@@ -24,8 +24,9 @@ impl Desk for Counter {
         self.asked = self.asked.saturating_add(1);
         match command {
             Command::Edit(_) => Answer::Refused(Refusal::Stopping),
-            Command::Text { doc } => Answer::Edited { rev: doc as u64 },
+            Command::Text { doc, .. } => Answer::Edited { rev: doc as u64 },
             Command::Spans { .. }
+            | Command::Versions { .. }
             | Command::Changes { .. }
             | Command::Anchors { .. }
             | Command::Places { .. }

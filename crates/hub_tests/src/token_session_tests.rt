@@ -69,7 +69,13 @@ fn edited(alloc: Global, desk: &mut Failing, edit: Option<Action>) -> Result<u64
 
 /// Whether document 1 has this text.
 fn shows(alloc: Global, desk: &mut Failing, wanted: &str) -> bool {
-    match desk.serve(alloc, Command::Text { doc: 1 }) {
+    match desk.serve(
+        alloc,
+        Command::Text {
+            doc: 1,
+            at_rev: None,
+        },
+    ) {
         Answer::Text { text, .. } => text.as_slice().iter().copied().eq(wanted.chars()),
         _ => false,
     }

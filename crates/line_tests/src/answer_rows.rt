@@ -1,10 +1,10 @@
 //! Answers of a daemon as rows tell them.
-use list_counts::PeerCounts;
+use list_counts::{PeerCounts, Version};
 use op_ids::ReplicaId;
 use op_model::{ChangeStep, CommentId, CommentIds, Marks, Span, Text, Url};
 use session_lines::{
     Answer, ChangeList, Command, LastingList, PeerList, PlaceList, Refusal, SpanList, State,
-    read_command,
+    VersionList, read_command,
 };
 use std::alloc::{AllocError, Global};
 use std::test::Fail;
@@ -35,6 +35,9 @@ pub enum Told {
     RefusedAt(Refusal, u64),
     Text(&'static str, usize),
     Spans(&'static [(&'static str, usize, Marked)]),
+    /// The names of replicas, how many operations the document has after each version, and how
+    /// many it has itself.
+    Versions(&'static [([u8; 16], u64, u64)]),
     Changes(&'static [Step]),
     /// The places that a line asks for in document 3.
     Anchors(&'static [u8]),
@@ -66,6 +69,10 @@ pub fn answer_of(alloc: Global, rev: u64, told: &Told) -> Result<Answer, Fail> {
         Told::Spans(rows) => {
             let spans = spans_of(alloc, rows)?;
             Ok(Answer::Spans { rev, spans })
+        }
+        Told::Versions(rows) => {
+            let versions = versions_of(alloc, rows)?;
+            Ok(Answer::Versions { rev, versions })
         }
         Told::Changes(rows) => {
             let changes = changes_of(alloc, rows)?;
@@ -158,6 +165,19 @@ fn anchors_of(alloc: Global, line: &[u8]) -> Result<LastingList, Fail> {
         Command::Places { doc: 3, anchors } => Ok(anchors),
         _ => Err("no places of document 3".into()),
     }
+}
+
+fn versions_of(alloc: Global, rows: &[([u8; 16], u64, u64)]) -> Result<VersionList, Fail> {
+    let mut versions = Vec::new(alloc);
+    for (name, rev, ops) in rows {
+        let replica = ReplicaId::read(*name).ok_or("nil")?;
+        versions.push(Version {
+            rev: *rev,
+            replica,
+            ops: *ops,
+        })?;
+    }
+    Ok(VersionList::from(versions))
 }
 
 fn replica_of(last: u8) -> Option<ReplicaId> {

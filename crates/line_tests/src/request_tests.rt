@@ -28,11 +28,13 @@ const NO_JSON: [&[u8]; 6] = [
     b"{\"op\":\"text\",\"doc\":1E400}",
 ];
 
-const NO_REQUESTS: [&[u8]; 6] = [
+const NO_REQUESTS: [&[u8]; 8] = [
     b"7",
     b"[\"status\"]",
     b"{}",
     b"{\"op\":\"fly\"}",
+    b"{\"op\":\"fly\",\"doc\":0}",
+    b"{\"op\":\"version\",\"doc\":1,\"every\":1}",
     b"{\"op\":1}",
     b"{\"op\":null}",
 ];
@@ -70,18 +72,63 @@ const BAD_FIELDS: [&[u8]; 16] = [
     b"{\"op\":\"unmark\",\"doc\":1,\"from\":0,\"to\":1,\"kind\":\"comment\"}",
 ];
 
-static LINES: [Lines; 13] = [
+/// No numbers of operations that a document is to be shown with, or that a version may have.
+const NO_COUNTS: [&[u8]; 16] = [
+    b"{\"op\":\"text\",\"doc\":1,\"at_rev\":4294967296}",
+    b"{\"op\":\"text\",\"doc\":1,\"at_rev\":-1}",
+    b"{\"op\":\"text\",\"doc\":1,\"at_rev\":1.5}",
+    b"{\"op\":\"text\",\"doc\":1,\"at_rev\":\"1\"}",
+    b"{\"op\":\"text\",\"doc\":1,\"at_rev\":null}",
+    b"{\"op\":\"text\",\"doc\":1,\"at_rev\":1,\"rev\":1}",
+    b"{\"op\":\"text\",\"doc\":0,\"at_rev\":1}",
+    b"{\"op\":\"spans\",\"doc\":1,\"at_rev\":4294967296}",
+    b"{\"op\":\"spans\",\"doc\":1,\"at_rev\":null}",
+    b"{\"op\":\"spans\",\"doc\":1,\"at_rev\":1,\"every\":1}",
+    b"{\"op\":\"versions\",\"doc\":1,\"every\":0}",
+    b"{\"op\":\"versions\",\"doc\":1,\"every\":4294967296}",
+    b"{\"op\":\"versions\",\"doc\":1,\"every\":\"1\"}",
+    b"{\"op\":\"versions\",\"doc\":1}",
+    b"{\"op\":\"versions\",\"doc\":0,\"every\":1}",
+    b"{\"op\":\"versions\",\"doc\":1,\"every\":1,\"at_rev\":1}",
+];
+
+static LINES: [Lines; 20] = [
     (&NO_JSON, Err(Refusal::Syntax)),
     (&NO_REQUESTS, Err(Refusal::Request)),
     (&NO_NUMBERS, Err(Refusal::Field)),
     (&BAD_FIELDS, Err(Refusal::Field)),
+    (&NO_COUNTS, Err(Refusal::Field)),
     (
         &[b"{\"op\":\"text\",\"doc\":4294967295}"],
-        Ok("Text { doc: 4294967295 }"),
+        Ok("Text { doc: 4294967295, at_rev: None }"),
     ),
     (
         &[b" {\"doc\":1, \"op\":\"spans\"} "],
-        Ok("Spans { doc: 1 }"),
+        Ok("Spans { doc: 1, at_rev: None }"),
+    ),
+    (
+        &[b"{\"op\":\"text\",\"doc\":1,\"at_rev\":0}"],
+        Ok("Text { doc: 1, at_rev: Some(0) }"),
+    ),
+    (
+        &[b"{\"op\":\"text\",\"doc\":1,\"at_rev\":4294967295}"],
+        Ok("Text { doc: 1, at_rev: Some(4294967295) }"),
+    ),
+    (
+        &[b"{\"at_rev\":0,\"doc\":2,\"op\":\"spans\"}"],
+        Ok("Spans { doc: 2, at_rev: Some(0) }"),
+    ),
+    (
+        &[b"{\"op\":\"spans\",\"doc\":1,\"at_rev\":4294967295}"],
+        Ok("Spans { doc: 1, at_rev: Some(4294967295) }"),
+    ),
+    (
+        &[b"{\"op\":\"versions\",\"doc\":1,\"every\":1}"],
+        Ok("Versions { doc: 1, every: 1 }"),
+    ),
+    (
+        &[b"{\"op\":\"versions\",\"doc\":4294967295,\"every\":4294967295}"],
+        Ok("Versions { doc: 4294967295, every: 4294967295 }"),
     ),
     (&[b"{\"op\":\"status\"}"], Ok("Status")),
     (&[b"{\"op\":\"peers\"}"], Ok("Peers")),

@@ -37,10 +37,15 @@ const KINDS: &str = "a\"\\\n\u{1}é😀";
 
 const KINDS_SAID: &[u8] = b"a\\\"\\\\\\n\\u0001\xc3\xa9\xf0\x9f\x98\x80";
 
+/// The name of a replica.
+const WRITER: [u8; 16] = [
+    0x0f, 0x5d, 0x2c, 0x4e, 0x9a, 0x1b, 0x4c, 0x3d, 0x8e, 0x7f, 0x11, 0x22, 0x33, 0x44, 0x55, 0x66,
+];
+
 /// What an answer shows, how many operations there are, what is told, and how it is said.
 type Row = (&'static str, u64, Told, &'static [Part<'static>]);
 
-static ROWS: [Row; 18] = [
+static ROWS: [Row; 20] = [
     (
         "an edit",
         3,
@@ -157,6 +162,21 @@ static ROWS: [Row; 18] = [
             (KINDS_SAID, 700),
             (b"\"}]}\n", 1),
         ],
+    ),
+    (
+        "no versions",
+        0,
+        Told::Versions(&[]),
+        &[(b"{\"ok\":true,\"rev\":0,\"versions\":[]}\n", 1)],
+    ),
+    (
+        "versions",
+        20,
+        Told::Versions(&[(WRITER, 9, 9), ([0xab; 16], 20, 11)]),
+        &[(
+            b"{\"ok\":true,\"rev\":20,\"versions\":[{\"ops\":9,\"replica\":\"0f5d2c4e-9a1b-4c3d-8e7f-112233445566\",\"rev\":9},{\"ops\":11,\"replica\":\"abababab-abab-abab-abab-abababababab\",\"rev\":20}]}\n",
+            1,
+        )],
     ),
     (
         "no peers",

@@ -72,6 +72,15 @@ export_app =
     rev_option)
     (flag_option (codes "breaks"))
 
+-- an option with the value N
+abbrev pub every_option : Rule
+every_option = record (new_rule (codes "every")) { long = Some (codes "every"); value_names = 1 }
+
+-- `history FILE DOC [--every N]`
+abbrev pub history_app : App
+history_app =
+    with_rule (with_rule (with_rule (new_app (codes "history")) (needed (codes "FILE"))) (needed (codes "DOC"))) every_option
+
 -- an option with the value ORIGIN that may be given again
 abbrev pub origin_option : Rule
 origin_option = record (new_rule (codes "origin")) { long = Some (codes "origin"); value_names = 1; action = Some Append }
@@ -111,9 +120,15 @@ versioned command = record command { has_version = true }
 abbrev pub bare_program : App
 bare_program = on_top versioned (new_app (codes "peritext"))
 
+-- a program with the commands that look at a file
+abbrev pub with_looks : App → App
+with_looks app =
+    with_subcommand (with_subcommand (with_subcommand (with_subcommand (with_subcommand app dump_app.top) list_app.top)
+    check_app.top) export_app.top) history_app.top
+
 -- all commands of the program
 abbrev pub program : App
 program =
-    with_subcommand (with_subcommand (with_subcommand (with_subcommand (with_subcommand (with_subcommand
-    (with_subcommand (with_subcommand (with_subcommand bare_program init_app.top) edit_app.top) dump_app.top)
-    list_app.top) check_app.top) export_app.top) import_app.top) serve_app.top) ask_app.top
+    with_subcommand (with_subcommand (with_subcommand
+    (with_looks (with_subcommand (with_subcommand bare_program init_app.top) edit_app.top))
+    import_app.top) serve_app.top) ask_app.top

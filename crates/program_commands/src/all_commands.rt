@@ -7,11 +7,12 @@ ghost use Rattle.program_commands.specs.Program.{init_app, edit_app, dump_app, s
 ghost use Rattle.program_commands.specs.Program.{flag_option, list_app, export_app, form_option, origin_option};
 ghost use Rattle.program_commands.specs.Program.{check_app, ask_app, line_rule, with_port_options};
 ghost use Rattle.program_commands.specs.Program.{import_app, from_option, rev_option};
+ghost use Rattle.program_commands.specs.Program.{history_app, every_option, with_looks};
 ghost use Rattle.program_commands.specs.Program.{needed as needed_rule};
 
 use crate::examples::{
     ASK_EXAMPLES, CHECK_EXAMPLES, DUMP_EXAMPLES, EDIT_EXAMPLES, EXAMPLES, EXPORT_EXAMPLES,
-    IMPORT_EXAMPLES, INIT_EXAMPLES, LIST_EXAMPLES, SERVE_EXAMPLES,
+    HISTORY_EXAMPLES, IMPORT_EXAMPLES, INIT_EXAMPLES, LIST_EXAMPLES, SERVE_EXAMPLES,
 };
 use clap::{Arg, ArgAction, Command};
 use std::alloc::{AllocError, Global};
@@ -27,17 +28,28 @@ pub fn commands<'a>(alloc: Global) -> Result<Command<'a>, AllocError>
         .version(VERSION)
         .about("Crash-safe rich text for one peer")
         .after_help(EXAMPLES);
-    let all = bare
+    let edited = bare
         .subcommand(init_command(alloc)?)?
-        .subcommand(edit_command(alloc)?)?
-        .subcommand(dump_command(alloc)?)?
-        .subcommand(list_command(alloc)?)?
-        .subcommand(check_command(alloc)?)?
-        .subcommand(export_command(alloc)?)?
+        .subcommand(edit_command(alloc)?)?;
+    let all = with_looks(alloc, edited)?
         .subcommand(import_command(alloc)?)?
         .subcommand(serve_command(alloc)?)?
         .subcommand(ask_command(alloc)?)?;
     Ok(all)
+}
+
+/// A program with the commands that look at a file: a function of its own, since the proof of one
+/// grows with the square of its ways out.
+fn with_looks<'a>(alloc: Global, command: Command<'a>) -> Result<Command<'a>, AllocError>
+    ensures { IfOk result (λ it. app_of it ≡ with_looks (app_of command.entry)) }
+{
+    let command = command
+        .subcommand(dump_command(alloc)?)?
+        .subcommand(list_command(alloc)?)?
+        .subcommand(check_command(alloc)?)?
+        .subcommand(export_command(alloc)?)?
+        .subcommand(history_command(alloc)?)?;
+    Ok(command)
 }
 
 /// A command without arguments.
@@ -146,6 +158,24 @@ fn export_command<'a>(alloc: Global) -> Result<Command<'a>, AllocError>
     Ok(command)
 }
 
+/// `history FILE DOC [--every N]`.
+fn history_command<'a>(alloc: Global) -> Result<Command<'a>, AllocError>
+    ensures app { IfOk result (λ command. app_of command ≡ history_app) }
+    ensures local { IfOk result (λ command. (out-Command command).has_globals ≡ false) }
+{
+    let bare = described(
+        alloc,
+        "history",
+        "Prints the versions of a document",
+        HISTORY_EXAMPLES,
+    );
+    let command = bare
+        .arg(needed(alloc, "FILE", "The store"))?
+        .arg(needed(alloc, "DOC", "The number of the document"))?
+        .arg(every(alloc))?;
+    Ok(command)
+}
+
 /// `import FILE DOC --from FORM`.
 fn import_command<'a>(alloc: Global) -> Result<Command<'a>, AllocError>
     ensures app { IfOk result (λ command. app_of command ≡ import_app) }
@@ -248,6 +278,17 @@ fn at_rev<'a>(alloc: Global) -> Arg<'a>
         .long("at-rev")
         .value_name("REV")
         .help("The document as it was with its first REV operations")
+}
+
+/// The option with the value N.
+fn every<'a>(alloc: Global) -> Arg<'a>
+    ensures rule { rule_of result ≡ every_option }
+    ensures local { result.global ≡ false }
+{
+    Arg::new(alloc, "every")
+        .long("every")
+        .value_name("N")
+        .help("A version has at most N operations")
 }
 
 /// The option with the value FORM of a page that is read.

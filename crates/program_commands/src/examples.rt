@@ -79,6 +79,18 @@ Examples:
   peritext export notes 1 --to markdown > notes.md
   peritext export notes 1 --to html > notes.html";
 
+pub(crate) const HISTORY_EXAMPLES: &str = "\
+Prints the answer to 'versions', a line: the versions of the document, each a stretch of its
+operations in this file, one after another, that one replica made. Each tells how many operations it
+has, its replica, and its 'rev': how many the document had with it, which --at-rev of 'export'
+takes. Without --every only another replica's operation begins a new one. With it a version has at
+most N, a number from 1 to 4294967295 in decimal digits. The file is only read. No session can have
+it open meanwhile (54).
+
+Examples:
+  peritext history notes 1
+  peritext history notes 1 --every 100";
+
 pub(crate) const IMPORT_EXAMPLES: &str = "\
 Reads standard input, UTF-8, and puts it in at the end of the document, after a line feed where that
 shows something: as it stands with 'text', and with 'markdown' (CommonMark) its paragraphs, a line

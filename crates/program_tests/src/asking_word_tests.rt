@@ -1,5 +1,6 @@
 //! Words that ask a daemon, check a file, or want to be told once a daemon listens.
-use crate::word_tests::{Due, gives, serving};
+use crate::due_words::{Due, gives};
+use crate::word_tests::serving;
 use command_syntax::{AskOrder, BadPort, CheckOrder, FewTexts, Order, ServeOrder};
 use command_words::{OrderFault, order};
 use std::alloc::Global;

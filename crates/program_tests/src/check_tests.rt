@@ -1,4 +1,4 @@
-//! What a check of a file tells.
+//! What a check of a file, and the versions of a document, tell.
 use crate::test_runs::{EDIT, What, fresh, made, turns};
 use std::test::Fail;
 
@@ -25,9 +25,42 @@ fn a_check_tells_what_is_there(rt: HostRuntime) -> Result<(), Fail> {
     Ok(())
 }
 
+const ONE_WRITER: &str =
+    "{\"ok\":true,\"rev\":3,\"versions\":[{\"ops\":3,\"replica\":\"00000000-0000-4000-8000-000000000001\",\"rev\":3}]}\n";
+
+const BY_TWO: &str =
+    "{\"ok\":true,\"rev\":3,\"versions\":[{\"ops\":2,\"replica\":\"00000000-0000-4000-8000-000000000001\",\"rev\":2},{\"ops\":1,\"replica\":\"00000000-0000-4000-8000-000000000001\",\"rev\":3}]}\n";
+
+#[test]
+fn versions_are_told_of_a_document(rt: HostRuntime) -> Result<(), Fail> {
+    let inserts =
+        "{\"op\":\"insert\",\"doc\":1,\"at\":0,\"text\":\"abc\"}\n{\"op\":\"insert\",\"doc\":7,\"at\":0,\"text\":\"d\"}\n";
+    let rows = [
+        (
+            What::History(1),
+            0,
+            "{\"ok\":true,\"rev\":0,\"versions\":[]}\n",
+            "",
+        ),
+        (
+            What::Order(EDIT, inserts),
+            0,
+            "{\"ok\":true,\"rev\":3}\n{\"ok\":true,\"rev\":1}\n",
+            "",
+        ),
+        (What::History(u32::MAX), 0, ONE_WRITER, ""),
+        (What::History(2), 0, BY_TWO, ""),
+    ];
+    let _ = turns(&rt, made(&rt)?, &rows);
+    Ok(())
+}
+
 #[test]
 fn what_is_no_store_is_refused(rt: HostRuntime) -> Result<(), Fail> {
-    let refused = [(What::Check, 1, "", "peritext: 42 no root\n")];
+    let refused = [
+        (What::Check, 1, "", "peritext: 42 no root\n"),
+        (What::History(1), 1, "", "peritext: 42 no root\n"),
+    ];
     let _ = turns(&rt, fresh(rt.alloc())?, &refused);
     Ok(())
 }

@@ -8,6 +8,8 @@ mod check_tests;
 #[cfg(test)]
 mod device_tests;
 #[cfg(test)]
+mod due_words;
+#[cfg(test)]
 mod export_tests;
 #[cfg(test)]
 mod mark_tests;

@@ -16,7 +16,7 @@ fn without_a_file_a_new_store_is_edited(rt: HostRuntime) -> Result<(), Fail> {
     Ok(())
 }
 
-static SESSIONS: [Session; 9] = [
+static SESSIONS: [Session; 10] = [
     (
         "a fresh store is empty",
         "{\"op\":\"text\",\"doc\":9}\n{\"op\":\"status\"}\n",
@@ -31,6 +31,11 @@ static SESSIONS: [Session; 9] = [
         "what changed and places are told",
         "{\"op\":\"insert\",\"doc\":1,\"at\":0,\"text\":\"abc\"}\n{\"op\":\"changes\",\"doc\":1,\"since\":3}\n{\"op\":\"delete\",\"doc\":1,\"at\":1,\"count\":1}\n{\"op\":\"changes\",\"doc\":1,\"since\":3}\n{\"op\":\"changes\",\"doc\":1,\"since\":0}\n{\"op\":\"changes\",\"doc\":1,\"since\":5}\n{\"op\":\"anchors\",\"doc\":1,\"at\":[0],\"side\":\"previous\"}\n{\"op\":\"places\",\"doc\":1,\"anchors\":[\"start\",\"end\"]}\n{\"op\":\"anchors\",\"doc\":1,\"at\":[3],\"side\":\"next\"}\n",
         "{\"ok\":true,\"rev\":3}\n{\"changes\":[],\"ok\":true,\"rev\":3}\n{\"ok\":true,\"rev\":4}\n{\"changes\":[{\"retain\":1},{\"delete\":1}],\"ok\":true,\"rev\":4}\n{\"changes\":[{\"insert\":\"ac\"}],\"ok\":true,\"rev\":4}\n{\"code\":6,\"error\":\"stale\",\"ok\":false}\n{\"anchors\":[\"start\"],\"ok\":true,\"rev\":4}\n{\"ok\":true,\"places\":[0,2],\"rev\":4}\n{\"code\":5,\"error\":\"range\",\"ok\":false}\n",
+    ),
+    (
+        "a document is told as it was, and its versions",
+        "{\"op\":\"insert\",\"doc\":1,\"at\":0,\"text\":\"abc\"}\n{\"op\":\"delete\",\"doc\":1,\"at\":1,\"count\":1}\n{\"op\":\"text\",\"doc\":1,\"at_rev\":2}\n{\"op\":\"spans\",\"doc\":1,\"at_rev\":3}\n{\"op\":\"text\",\"doc\":1,\"at_rev\":5}\n{\"op\":\"versions\",\"doc\":1,\"every\":3}\n",
+        "{\"ok\":true,\"rev\":3}\n{\"ok\":true,\"rev\":4}\n{\"ok\":true,\"rev\":2,\"text\":\"ab\"}\n{\"ok\":true,\"rev\":3,\"spans\":[{\"text\":\"abc\"}]}\n{\"code\":6,\"error\":\"stale\",\"ok\":false}\n{\"ok\":true,\"rev\":4,\"versions\":[{\"ops\":3,\"replica\":\"00000000-0000-4000-8000-000000000001\",\"rev\":3},{\"ops\":1,\"replica\":\"00000000-0000-4000-8000-000000000001\",\"rev\":4}]}\n",
     ),
     (
         "a text is found, and a document exported",

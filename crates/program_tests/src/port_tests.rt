@@ -1,5 +1,6 @@
 //! Words that name no port, and what is told of them.
-use crate::word_tests::{Due, gives, serving};
+use crate::due_words::{Due, gives};
+use crate::word_tests::serving;
 use command_syntax::BadPort;
 use command_words::order;
 use std::process::Abort;

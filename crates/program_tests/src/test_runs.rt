@@ -8,7 +8,8 @@ use std::alloc::{AllocError, Global};
 use std::process::Abort;
 use std::test::Fail;
 use store_orders::{
-    Ended, Imported, Shown, import, perform, print, show, show_check, show_past, status,
+    Ended, Imported, Shown, import, perform, print, show, show_check, show_past, show_versions,
+    status,
 };
 
 /// What a run leaves: its disk, its exit status, and what it wrote.
@@ -84,6 +85,8 @@ pub enum What<'a> {
     Past(u32),
     /// A page is put in at the end of document 1.
     Import(PageForm, &'a str),
+    /// The versions of document 1, of at most so many operations each, are shown.
+    History(u32),
     /// It is checked.
     Check,
 }
@@ -115,6 +118,7 @@ pub fn turn<D: Disk>(rt: &(impl Abort + AllocGlobal), disk: D, row: &Row<'_>) ->
         What::Order(order, input) => run(rt.alloc(), order, disk, input),
         What::Dump(doc) => shown(rt.alloc(), show(rt.alloc(), disk, *doc)),
         What::Past(rev) => shown(rt.alloc(), show_past(rt.alloc(), disk, 1, *rev, Form::Text)),
+        What::History(every) => shown(rt.alloc(), show_versions(rt.alloc(), disk, 1, *every)),
         What::Import(form, page) => imported(rt.alloc(), *form, disk, page),
         What::Check => shown(rt.alloc(), show_check(rt.alloc(), disk)),
     };

@@ -1,60 +1,11 @@
 //! Words of command lines, and what they ask for.
-use crate::word_tests::Due::{Field, Is, Port, Web};
-use command_syntax::{BadPort, DumpOrder, Order, ServeOrder, StoreOrder};
+use crate::due_words::Due::{self, Field, Is, Port, Web};
+use crate::due_words::gives;
+use command_syntax::{BadPort, DumpOrder, HistoryOrder, Order, ServeOrder, StoreOrder};
 use command_words::{OrderFault, order};
 use op_ids::ReplicaId;
 use std::process::Abort;
 use std::test::Fail;
-
-/// What words give.
-#[derive(Clone, Copy)]
-pub enum Due<'a> {
-    /// They ask for this.
-    Is(Order<'a>),
-    /// They ask for a `serve` with WebSockets at this port, for the pages of these origins.
-    Web(u16, &'a [&'a str]),
-    /// A number, or an id, breaks its rule.
-    Field,
-    /// This port breaks its rule.
-    Port(BadPort<'a>),
-}
-
-/// Whether an order is a `serve` with WebSockets at this port, for the pages of these origins.
-fn has_web(order: &Order<'_>, port: u16, origins: &[&str]) -> bool {
-    match order {
-        Order::Serve(ServeOrder { web: Some(web), .. }) => {
-            web.port == port && web.origins.as_slice() == origins
-        }
-        _ => false,
-    }
-}
-
-/// Whether an order is due.
-fn is_asked(order: &Order<'_>, due: &Due<'_>) -> bool {
-    match due {
-        Is(asked) => order == asked,
-        Web(port, origins) => has_web(order, *port, origins),
-        _ => false,
-    }
-}
-
-/// Whether a refusal is due.
-fn is_refused(fault: &OrderFault<'_>, due: &Due<'_>) -> bool {
-    match (fault, due) {
-        (OrderFault::Field, Field) => true,
-        (OrderFault::Port(port), Port(bad)) => port == bad,
-        _ => false,
-    }
-}
-
-/// Reads words, which have to give this.
-pub fn gives<'a>(rt: &(impl Abort + AllocGlobal), words: &'a [&'a str], due: &Due<'a>) {
-    let is_due = match order(rt.alloc(), words) {
-        Ok(order) => is_asked(&order, due),
-        Err(fault) => is_refused(&fault, due),
-    };
-    assert!(rt; is_due, "{words:?}");
-}
 
 #[test]
 fn an_init_names_a_file_and_a_replica(rt: HostRuntime) -> Result<(), Fail> {
@@ -108,6 +59,8 @@ enum Asked {
     Edit,
     /// A dump of a document of it.
     Dump(u32),
+    /// The versions of a document of it, of at most so many operations each.
+    History(u32, u32),
     /// A `serve` of it with this port of sessions, and 7002 of peers: whether it joins a peer, ends
     /// on failure, and tells its events.
     Serve(u16, Option<u16>, bool, bool),
@@ -123,6 +76,7 @@ fn due_of(asked: Asked) -> Due<'static> {
         Asked::InMemory => Is(Order::Store(StoreOrder::InMemory)),
         Asked::Edit => Is(Order::Store(StoreOrder::Edit { file })),
         Asked::Dump(doc) => Is(Order::Dump(DumpOrder { file, doc })),
+        Asked::History(doc, every) => Is(Order::History(HistoryOrder { file, doc, every })),
         Asked::Serve(sessions, link, ends_on_failure, logs) => Is(Order::Serve(ServeOrder {
             sessions,
             link,
@@ -135,7 +89,7 @@ fn due_of(asked: Asked) -> Due<'static> {
     }
 }
 
-static GIVEN: [(&[&str], Asked); 22] = [
+static GIVEN: [(&[&str], Asked); 26] = [
     (&["peritext"], Asked::InMemory),
     (&["peritext", "edit", "store"], Asked::Edit),
     (&["peritext", "dump", "store", "1"], Asked::Dump(1)),
@@ -151,6 +105,22 @@ static GIVEN: [(&[&str], Asked); 22] = [
     (&["peritext", "dump", "store", "+1"], Asked::Nothing),
     (&["peritext", "dump", "store", " 1"], Asked::Nothing),
     (&["peritext", "dump", "store", ""], Asked::Nothing),
+    (
+        &["peritext", "history", "store", "7"],
+        Asked::History(7, 4_294_967_295),
+    ),
+    (
+        &["peritext", "history", "--every", "1", "store", "7"],
+        Asked::History(7, 1),
+    ),
+    (
+        &["peritext", "history", "store", "7", "--every=0"],
+        Asked::Nothing,
+    ),
+    (
+        &["peritext", "history", "store", "0", "--every=1"],
+        Asked::Nothing,
+    ),
     (
         &[
             "peritext",

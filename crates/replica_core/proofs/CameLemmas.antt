@@ -70,7 +70,7 @@ pub record IsBack (s : Since) (ops : List Op) (doc count left j : ℕ) : Type 0 
   pub since : IsSince s (take j ops) (drop j ops) doc
 
 -- a longer beginning has at least as many of the document
-rev_front : (ops : List Op) (doc j k : ℕ) → j ≤ k → rev (take j ops) doc ≤ rev (take k ops) doc
+pub rev_front : (ops : List Op) (doc j k : ℕ) → j ≤ k → rev (take j ops) doc ≤ rev (take k ops) doc
 rev_front ops doc zero k less = omega arith
 rev_front [] doc (suc j) k less = omega arith
 rev_front (op ∷ ops) doc (suc j) zero less = let never : ⊥ = omega arith in absurd never

@@ -8,7 +8,7 @@ use Rattle.doc_core.specs.declared.doc.Doc.{Doc}
 use Rattle.edit_tokens.specs.declared.place.Place.{Place}
 use Rattle.edit_tokens.specs.Places.{AreTokens}
 use Rattle.op_model.specs.Actions.{made_by_action, Asked}
-use Rattle.op_model.specs.Causality.{clock_of, IsCausallyClosed}
+use Rattle.op_model.specs.Causality.{clock_of}
 use Rattle.op_model.specs.declared.op.Op.{Op}
 use Rattle.op_model.specs.Held.{ReplicaHeld, with_edit}
 use Rattle.op_model.specs.Machine.{new_edit_alone, ticket}

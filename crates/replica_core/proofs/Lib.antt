@@ -32,3 +32,4 @@ pub mod RepeatLemmas
 pub mod CameLemmas
 pub mod DocCountLemmas
 pub mod PastLemmas
+pub mod VersionLemmas

@@ -1,5 +1,5 @@
 -- Several changes that are made on a copy, one after another.
-use Rattle.std.proofs.Common.{◌≡◌, ℕ, List, [], ◌∷◌, ◌++◌, Option, None, refl, sym, ◌∙◌, ap, subst, append_assoc, append-nil}
+use Rattle.std.proofs.Common.{◌≡◌, ℕ, List, [], ◌∷◌, ◌++◌, Option, sym, ◌∙◌, ap, subst, append_assoc, append-nil}
 use Rattle.op_model.specs.Actions.{edit_of, made_in_turn}
 use Rattle.op_model.specs.declared.edit.Change.{Change}
 use Rattle.op_model.specs.declared.op.Op.{Op}

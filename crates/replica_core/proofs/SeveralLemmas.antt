@@ -1,5 +1,5 @@
 -- Several changes, counted one after another.
-use Rattle.std.proofs.Common.{◌≡◌, ℕ, ◌+◌, ◌<◌, true, List, [], ◌∷◌, length, Option, Some, None, refl, ap, ◌∙◌, suc, drop, get_or, arith}
+use Rattle.std.proofs.Common.{◌≡◌, ℕ, ◌+◌, ◌<◌, true, List, ◌∷◌, length, Option, Some, None, refl, ap, drop, get_or, arith}
 use Rattle.std.proofs.lemmas.List.{drop_more}
 use Rattle.std.specs.Prelude.{if◌then◌else◌, is_some}
 use Rattle.op_ids.specs.Clock.{advanced}
@@ -9,7 +9,7 @@ use Rattle.op_model.specs.declared.edit.Change.{Change}
 use Rattle.op_model.specs.declared.edit.Edit.{Edit}
 use Rattle.op_model.specs.declared.op.Op.{Op}
 use Rattle.op_model.specs.Made.{is_at_rev}
-use Rattle.op_model.specs.Records.{head_length, token_length}
+use Rattle.op_model.specs.Records.{token_length}
 use Rattle.op_model.specs.Text.{rev, visible}
 use Rattle.replica_core.specs.declared.turn.Turn.{Turn}
 use Rattle.replica_core.specs.Turns.{room_of, IsRefusedNow, IsTaken}

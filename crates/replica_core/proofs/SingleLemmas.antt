@@ -1,7 +1,7 @@
 -- An action of one change is refused as the edit, one of several is not.
 use Rattle.std.proofs.Common.{◌≡◌, ℕ, ◌<◌, List, [], ◌∷◌, length, drop, Option, Some, None, refl, ap, ◌∙◌, arith}
 use Rattle.std.specs.Option.{option_map}
-use Rattle.op_model.specs.Actions.{action_refusal, asked, made_by_action, refusal_of, refused_several, Asked}
+use Rattle.op_model.specs.Actions.{action_refusal, asked, refusal_of, refused_several, Asked}
 use Rattle.op_model.specs.declared.edit.Change.{Change}
 use Rattle.op_model.specs.declared.edit.Edit.{Edit}
 use Rattle.op_model.specs.declared.op.Op.{Op}

@@ -20,3 +20,4 @@ pub mod Came
 pub mod Changed
 pub mod Past
 pub mod Drafted
+pub mod Versions

@@ -39,9 +39,11 @@ mod steps;
 mod telling;
 mod ticket;
 mod turn;
+mod versions;
 
 pub use decided::Decided;
 pub use merged::Merged;
+pub use past::the_past_goes_by_the_number_of_operations;
 pub use prepared::Prepared;
 pub use refusal::Refusal;
 pub use replica::Replica;

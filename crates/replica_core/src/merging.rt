@@ -7,8 +7,9 @@ ghost use Rattle.doc_core.specs.Standing.{StandsFor};
 ghost use Rattle.op_model.specs.declared.op.Op.{Op as Operation};
 ghost use Rattle.op_model.specs.Causality.{first_failed as first_failed_of, MayFollow};
 ghost use Rattle.op_model.specs.Held.{with_merge};
+ghost use Rattle.op_model.specs.Rising.{IsPlace};
 ghost use Rattle.span_flatten.specs.Since.{removes_again as removes_again_of};
-ghost use Rattle.replica_core.specs.Docs.{doc_number};
+ghost use Rattle.replica_core.specs.Docs.{doc_number, numbers, AreDocs};
 ghost use Rattle.replica_core.specs.Merging.{after_merge, answer_of, CanMerge};
 ghost use Rattle.replica_core.specs.Refusal.{number_of};
 ghost use Rattle.replica_core.specs.declared.merged.Merged.TheVariants.{Applied};
@@ -22,6 +23,7 @@ use crate::replica::Replica;
 use crate::step::Step;
 use doc_core::{Doc, Made, SequenceError};
 use op_model::{Body, Op};
+use std::alloc::Global;
 
 impl Replica {
     /// Puts a peer's operation behind the list, or says that it is there already, or that it comes
@@ -109,8 +111,7 @@ impl Replica {
         let doc = op.doc;
         let index = self.log.list.len();
         let place = docs::place(&self.log.docs, doc);
-        let empty = Doc::new(alloc, doc);
-        let is_repeat = removes_again(docs::at(&self.log.docs, place, &empty), &op);
+        let is_repeat = is_repeat(alloc, &self.log.docs, place, &op);
         let made = Made::one(alloc, op)?;
         self.repeats.note(index, is_repeat)?;
         match self.log.append(&made, replica, doc, place) {
@@ -125,6 +126,18 @@ impl Replica {
         self.steps.push(Step::Merge { peer, index });
         Ok(())
     }
+}
+
+/// Whether an operation that may come behind all others removes a character that was removed before
+/// from its document, which is the one at this place, or has no operations yet. Takes no memory.
+/// What `Doc::is_removed` costs, for a remove.
+fn is_repeat(alloc: Global, docs: &[Doc], place: Result<usize, usize>, op: &Op) -> bool
+    requires { IsPlace (numbers docs.now) op.now.doc place }
+    ensures { (ops : List Operation) → AreDocs docs.now ops → MayFollow ops op.now
+        → result ≡ removes_again_of ops op.now.doc op.now.body }
+{
+    let empty = Doc::new(alloc, op.doc);
+    removes_again(docs::at(docs, place, &empty), op)
 }
 
 /// Whether an operation that may come behind all others of its document removes a character that

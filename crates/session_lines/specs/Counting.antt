@@ -4,6 +4,7 @@ use Rattle.fixed_numbers.specs.declared.limits.TheConstants.{MAX_DOCUMENTS, MAX_
 use Rattle.list_counts.specs.Documents.{Counted}
 use Rattle.list_counts.specs.declared.room.FileRoom.{FileRoom}
 use Rattle.list_counts.specs.declared.room.Room.{Room}
+use Rattle.list_counts.specs.declared.version.Version.{Version}
 use Rattle.session_lines.specs.Words.{said_list, said_replica}
 
 -- what is counted of a document
@@ -17,6 +18,18 @@ said_document d =
 -- the answer that lists documents
 abbrev pub said_counted : List Counted → List ℕ
 said_counted documents = codes "{\"documents\":[" ++ (said_list said_document false documents ++ codes ",\"ok\":true}\n")
+
+-- a version: how many operations it has, whose they are, and how many the document has after it
+abbrev pub said_version : Version → List ℕ
+said_version v =
+    codes "{\"ops\":" ++ (decimal v.ops
+    ++ (codes ",\"replica\":" ++ (said_replica v.replica
+    ++ (codes ",\"rev\":" ++ (decimal v.rev ++ codes "}")))))
+
+-- the answer that lists versions
+abbrev pub said_versions : ℕ → List Version → List ℕ
+said_versions rev versions =
+    codes "{\"ok\":true,\"rev\":" ++ (decimal rev ++ (codes ",\"versions\":[" ++ (said_list said_version false versions ++ codes "}\n")))
 
 -- a number and its limit
 abbrev pub part : List ℕ → ℕ → List ℕ → ℕ → List ℕ

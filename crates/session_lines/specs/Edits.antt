@@ -102,6 +102,7 @@ change_of verb.Unmark outer d = unmark_change outer d
 change_of verb.Edits outer d = Err Field
 change_of verb.Text outer d = Err Field
 change_of verb.Spans outer d = Err Field
+change_of verb.Versions outer d = Err Field
 change_of verb.Changes outer d = Err Field
 change_of verb.Anchors outer d = Err Field
 change_of verb.Places outer d = Err Field

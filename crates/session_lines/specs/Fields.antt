@@ -44,6 +44,7 @@ verb_named name =
     else if bytes_eq name (codes "edits") then Some verb.Edits
     else if bytes_eq name (codes "text") then Some verb.Text
     else if bytes_eq name (codes "spans") then Some verb.Spans
+    else if bytes_eq name (codes "versions") then Some verb.Versions
     else if bytes_eq name (codes "changes") then Some verb.Changes
     else if bytes_eq name (codes "anchors") then Some verb.Anchors
     else if bytes_eq name (codes "places") then Some verb.Places
@@ -111,6 +112,10 @@ if_whole (Some d) = or_field (option_map (λ n. Some n) (as_whole 0 d))
 -- the number of operations that the document has to have, if one is asked for
 abbrev pub rev_of : Data → Result (Option ℕ) Refusal
 rev_of d = if_whole (get (codes "rev") d)
+
+-- the number of operations that the document is to be shown with, if one is asked for
+abbrev pub at_rev_of : Data → Result (Option ℕ) Refusal
+at_rev_of d = if_whole (get (codes "at_rev") d)
 
 -- a number above 0
 abbrev pub non_zero : ℕ → Option NonZeroU32

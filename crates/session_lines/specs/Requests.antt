@@ -10,7 +10,7 @@ use Rattle.session_lines.specs.declared.refusal.Refusal.TheVariants.{Syntax, Req
 use Rattle.session_lines.specs.declared.verb.Verb.{Verb}
 use Rattle.session_lines.specs.declared.verb.Verb.TheVariants as verb
 use Rattle.session_lines.specs.Edits.{edit_asked, edits_asked}
-use Rattle.session_lines.specs.Fields.{◌>>=◌, verb_named, text_at, only, whole}
+use Rattle.session_lines.specs.Fields.{◌>>=◌, verb_named, text_at, only, whole, at_rev_of}
 use Rattle.session_lines.specs.Reading.{find_asked, export_asked}
 use Rattle.session_lines.specs.Several.{numbers_of, anchors_of, side_of}
 
@@ -27,13 +27,37 @@ verb_of d = or_request (option_and_then verb_named (text_at (codes "op") d))
 abbrev pub doc_fields : List (List ℕ)
 doc_fields = codes "op" ∷ codes "doc" ∷ []
 
+-- the fields of a request that shows a document: of now, or as it was when it had so many operations
+abbrev pub shown_fields : List (List ℕ)
+shown_fields = codes "op" ∷ codes "doc" ∷ codes "at_rev" ∷ []
+
 -- a request that has no field but its name
 abbrev pub bare_asked : Command → Data → Result Command Refusal
 bare_asked command d = only (codes "op" ∷ []) d >>= λ _. Ok command
 
 -- the request for a text
 abbrev pub text_asked : Data → Result Command Refusal
-text_asked d = only doc_fields d >>= λ _. whole (codes "doc") 1 d >>= λ doc. Ok (command.Text doc)
+text_asked d =
+    only shown_fields d >>= λ _.
+    whole (codes "doc") 1 d >>= λ doc.
+    at_rev_of d >>= λ at_rev.
+    Ok (command.Text doc at_rev)
+
+-- the request for spans
+abbrev pub spans_asked : Data → Result Command Refusal
+spans_asked d =
+    only shown_fields d >>= λ _.
+    whole (codes "doc") 1 d >>= λ doc.
+    at_rev_of d >>= λ at_rev.
+    Ok (command.Spans doc at_rev)
+
+-- the request for versions
+abbrev pub versions_asked : Data → Result Command Refusal
+versions_asked d =
+    only (codes "op" ∷ codes "doc" ∷ codes "every" ∷ []) d >>= λ _.
+    whole (codes "doc") 1 d >>= λ doc.
+    whole (codes "every") 1 d >>= λ every.
+    Ok (command.Versions doc every)
 
 -- the request what changed
 abbrev pub changes_asked : Data → Result Command Refusal
@@ -68,7 +92,8 @@ command_of verb.Mark d = edit_asked verb.Mark d
 command_of verb.Unmark d = edit_asked verb.Unmark d
 command_of verb.Edits d = edits_asked d
 command_of verb.Text d = text_asked d
-command_of verb.Spans d = only doc_fields d >>= λ _. whole (codes "doc") 1 d >>= λ doc. Ok (command.Spans doc)
+command_of verb.Spans d = spans_asked d
+command_of verb.Versions d = versions_asked d
 command_of verb.Changes d = changes_asked d
 command_of verb.Anchors d = anchors_asked d
 command_of verb.Places d = places_asked d

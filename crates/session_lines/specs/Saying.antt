@@ -17,7 +17,7 @@ use Rattle.session_lines.specs.declared.answer.Answer.TheVariants as answer
 use Rattle.session_lines.specs.declared.answer.State.{State}
 use Rattle.session_lines.specs.declared.answer.State.TheVariants as state
 use Rattle.session_lines.specs.Anchors.{lasting_text}
-use Rattle.session_lines.specs.Counting.{said_counted, said_room}
+use Rattle.session_lines.specs.Counting.{said_counted, said_room, said_versions}
 use Rattle.session_lines.specs.Words.{quoted, said_list, said_replica}
 
 -- the number of a refusal
@@ -233,6 +233,7 @@ abbrev pub said : Answer → List ℕ
 said (answer.Edited rev) = said_edited rev
 said (answer.Text rev text) = said_text rev text
 said (answer.Spans rev spans) = said_listed rev spans
+said (answer.Versions rev versions) = said_versions rev versions
 said (answer.Changes rev changes) = said_changed rev changes
 said (answer.Anchors rev anchors) = said_named rev anchors
 said (answer.Places rev places) = said_standing rev places
@@ -251,6 +252,7 @@ abbrev pub is_long : Answer → Bool
 is_long (answer.Edited rev) = false
 is_long (answer.Text rev text) = true
 is_long (answer.Spans rev spans) = true
+is_long (answer.Versions rev versions) = true
 is_long (answer.Changes rev changes) = true
 is_long (answer.Anchors rev anchors) = true
 is_long (answer.Places rev places) = true

@@ -8,6 +8,7 @@ use crate::peer_list::PeerList;
 use crate::place_list::PlaceList;
 use crate::refusal::Refusal;
 use crate::span_list::SpanList;
+use crate::version_list::VersionList;
 use list_counts::Room;
 use op_model::Text;
 
@@ -18,15 +19,20 @@ pub enum Answer {
     Edited {
         rev: u64,
     },
-    /// The text of a document, and how many operations it has.
+    /// The text of a document, and how many operations it has, or had then.
     Text {
         rev: u64,
         text: Text,
     },
-    /// The spans of a document, and how many operations it has.
+    /// The spans of a document, and how many operations it has, or had then.
     Spans {
         rev: u64,
         spans: SpanList,
+    },
+    /// The versions of a document, and how many operations it has.
+    Versions {
+        rev: u64,
+        versions: VersionList,
     },
     /// What changed in a document, and how many operations it has.
     Changes {

@@ -1,7 +1,7 @@
 //! An answer as a line of JSON.
 ghost use Rattle.std.specs.Prelude.{◌≡◌, ◌≤◌, ◌+◌, ◌++◌, IsTrue, OnOk, OnErr};
 ghost use Rattle.std.specs.Prelude.{vec_len, vec_capacity};
-ghost use Rattle.session_lines.specs.Counting.{said_counted};
+ghost use Rattle.session_lines.specs.Counting.{said_counted, said_versions};
 ghost use Rattle.session_lines.specs.Putting.{Puts};
 ghost use Rattle.session_lines.specs.Saying.{said, is_long, said_text, said_listed, said_connected};
 ghost use Rattle.session_lines.specs.Saying.{said_changed, said_exported, said_named, said_standing};
@@ -23,6 +23,8 @@ use crate::room::put_room;
 use crate::short_line::{SHORT, put_done, put_edited, put_refused, put_refused_at, put_status};
 use crate::span_list::SpanList;
 use crate::spans::put_spans;
+use crate::version_list::VersionList;
+use crate::versions::put_versions;
 use op_model::Text;
 use std::alloc::{AllocError, Global};
 
@@ -55,6 +57,7 @@ fn put_answer(answer: &Answer, out: &mut Vec<u8>) -> Result<(), AllocError>
     match answer {
         Answer::Text { rev, text } => return put_shown(*rev, text, out),
         Answer::Spans { rev, spans } => return put_listed(*rev, spans, out),
+        Answer::Versions { rev, versions } => return put_versioned(*rev, versions, out),
         Answer::Changes { rev, changes } => return put_changed(*rev, changes, out),
         Answer::Anchors { rev, anchors } => return put_named(*rev, anchors, out),
         Answer::Places { rev, places } => return put_standing(*rev, places, out),
@@ -90,6 +93,15 @@ fn put_listed(rev: u64, spans: &SpanList, out: &mut Vec<u8>) -> Result<(), Alloc
 {
     put_numbered(b"{\"ok\":true,\"rev\":", rev, b",\"spans\":[", out)?;
     put_spans(spans.as_slice(), out)?;
+    put(b"}\n", out)
+}
+
+/// Puts the answer that lists versions.
+fn put_versioned(rev: u64, versions: &VersionList, out: &mut Vec<u8>) -> Result<(), AllocError>
+    ensures { Puts result out.old out.new (said_versions rev versions.now) }
+{
+    put_numbered(b"{\"ok\":true,\"rev\":", rev, b",\"versions\":[", out)?;
+    put_versions(versions.as_slice(), out)?;
     put(b"}\n", out)
 }
 

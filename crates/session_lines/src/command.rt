@@ -10,13 +10,21 @@ use span_export::Form;
 pub enum Command {
     /// A change of a document, or several at once, by numbers or at places that last.
     Edit(PlacedAction),
-    /// The text of a document, by its number from 1 on.
+    /// The text of a document, by its number from 1 on: of now, or as it was when it had so many
+    /// operations.
     Text {
         doc: u32,
+        at_rev: Option<u32>,
     },
-    /// The spans of a document, by its number from 1 on.
+    /// The spans of a document likewise.
     Spans {
         doc: u32,
+        at_rev: Option<u32>,
+    },
+    /// The versions of a document, by its number from 1 on, of at most so many operations each.
+    Versions {
+        doc: u32,
+        every: u32,
     },
     /// What changed in a document, by its number from 1 on, since it had so many operations.
     Changes {

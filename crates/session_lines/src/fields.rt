@@ -6,7 +6,7 @@ ghost use Rattle.std.specs.BTreeMap.{keys};
 ghost use Rattle.serde_json.specs.Find.{get};
 ghost use Rattle.serde_json.specs.View.{view};
 ghost use Rattle.session_lines.specs.Fields.{Reads, only, as_whole, whole, if_whole, rev_of, count_of};
-ghost use Rattle.session_lines.specs.Fields.{characters_of, kind_of, url_of, comment_of};
+ghost use Rattle.session_lines.specs.Fields.{at_rev_of, characters_of, kind_of, url_of, comment_of};
 ghost use Rattle.session_lines.specs.Fields.{token_named, token_of};
 
 use crate::kind::Kind;
@@ -90,6 +90,13 @@ pub(crate) fn rev(value: &Value) -> Result<Option<u32>, Refusal>
     ensures { Reads result (rev_of (view value.now)) }
 {
     optional(value, "rev")
+}
+
+/// The number of operations that the document is to be shown with, if one is asked for.
+pub(crate) fn at_rev(value: &Value) -> Result<Option<u32>, Refusal>
+    ensures { Reads result (at_rev_of (view value.now)) }
+{
+    optional(value, "at_rev")
 }
 
 /// The field of this name, a whole number, if there is one.

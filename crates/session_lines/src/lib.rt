@@ -35,6 +35,8 @@ mod span_list;
 mod spans;
 mod spot;
 mod verb;
+mod version_list;
+mod versions;
 mod watch;
 mod watching;
 
@@ -53,5 +55,6 @@ pub use refusal::Refusal;
 pub use room::put_file_room;
 pub use short_line::{SHORT, put_watched};
 pub use span_list::SpanList;
+pub use version_list::VersionList;
 pub use watch::watch_line;
 pub use watching::Watching;

@@ -11,7 +11,7 @@ use serde_json::Value;
 use std::alloc::Global;
 
 /// What a line without its line feed asks for. `Syntax` (2) where the line isn't read as JSON in
-/// UTF-8, `Request` (3) where it is no object with one of the thirteen requests as its `op`,
+/// UTF-8, `Request` (3) where it is no object with the name of a request as its `op`,
 /// `Field` (4) where a field is missing, unknown or breaks its rule; the first of these is given.
 /// `Memory` (1) where a growth was refused. The time is that of reading the line.
 pub fn read_command(alloc: Global, line: &[u8]) -> Result<Command, Refusal>

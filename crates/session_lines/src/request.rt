@@ -4,11 +4,11 @@ ghost use Rattle.session_lines.specs.Edits.{edit_asked};
 ghost use Rattle.session_lines.specs.Fields.{Reads};
 ghost use Rattle.session_lines.specs.Requests.{verb_of, request_of};
 ghost use Rattle.session_lines.specs.Requests.{text_asked, anchors_asked, bare_asked, changes_asked};
-ghost use Rattle.session_lines.specs.Requests.{places_asked};
+ghost use Rattle.session_lines.specs.Requests.{places_asked, spans_asked, versions_asked};
 
 use crate::command::Command;
 use crate::edits::edits;
-use crate::fields::{only, rev, token, whole};
+use crate::fields::{at_rev, only, rev, token, whole};
 use crate::one_change::change;
 use crate::reading::{export, find};
 use crate::refusal::Refusal;
@@ -28,11 +28,8 @@ pub(crate) fn request(alloc: Global, value: &Value) -> Result<Command, Refusal>
         Verb::Insert | Verb::Delete | Verb::Mark | Verb::Unmark => edit(alloc, value, verb),
         Verb::Edits => edits(alloc, value),
         Verb::Text => text(value),
-        Verb::Spans => {
-            only(value, &["op", "doc"])?;
-            let doc = whole(value, "doc", 1)?;
-            Ok(Command::Spans { doc })
-        }
+        Verb::Spans => spans(value),
+        Verb::Versions => versions(value),
         Verb::Changes => changes(value),
         Verb::Anchors => anchors(alloc, value),
         Verb::Places => places(alloc, value),
@@ -54,13 +51,34 @@ fn bare(value: &Value, command: Command) -> Result<Command, Refusal>
     Ok(command)
 }
 
-/// The request for a text.
+/// The request for a text, of now or as it was.
 fn text(value: &Value) -> Result<Command, Refusal>
     ensures { Reads result (text_asked (view value.now)) }
 {
-    only(value, &["op", "doc"])?;
+    only(value, &["op", "doc", "at_rev"])?;
     let doc = whole(value, "doc", 1)?;
-    Ok(Command::Text { doc })
+    let at_rev = at_rev(value)?;
+    Ok(Command::Text { doc, at_rev })
+}
+
+/// The request for spans, of now or as they were.
+fn spans(value: &Value) -> Result<Command, Refusal>
+    ensures { Reads result (spans_asked (view value.now)) }
+{
+    only(value, &["op", "doc", "at_rev"])?;
+    let doc = whole(value, "doc", 1)?;
+    let at_rev = at_rev(value)?;
+    Ok(Command::Spans { doc, at_rev })
+}
+
+/// The request for versions.
+fn versions(value: &Value) -> Result<Command, Refusal>
+    ensures { Reads result (versions_asked (view value.now)) }
+{
+    only(value, &["op", "doc", "every"])?;
+    let doc = whole(value, "doc", 1)?;
+    let every = whole(value, "every", 1)?;
+    Ok(Command::Versions { doc, every })
 }
 
 /// The request what changed.

@@ -11,7 +11,7 @@ use Rattle.locked_replica.specs.Hub.{Parts, state_of}
 use Rattle.locked_replica.specs.Run.{Calls}
 use Rattle.session_lines.specs.Saying.{number_of}
 use Rattle.session_lines.specs.declared.answer.Answer.{Answer}
-use Rattle.session_lines.specs.declared.answer.Answer.TheVariants.{Edited, Text, Spans, Changes, Anchors, Places, Exported}
+use Rattle.session_lines.specs.declared.answer.Answer.TheVariants.{Edited, Text, Spans, Versions, Changes, Anchors, Places, Exported}
 use Rattle.session_lines.specs.declared.answer.Answer.TheVariants.{Status, Peers, Documents, Room, Stopped, Done, Refused, RefusedAt}
 use Rattle.session_threads.specs.ActsOnce.{ChangesNothing}
 use Rattle.session_threads.specs.HeldDesk.{HeldDesk}
@@ -78,6 +78,7 @@ module _ {D : Type 0} (facts : Ghosts D) where
       absurd (never_open mid behind.0 it.given (still_settled old mid it.given t known settled) behind.1)
   answered_known session old new e t (Text rev text) found settled never = absurd never
   answered_known session old new e t (Spans rev spans) found settled never = absurd never
+  answered_known session old new e t (Versions rev versions) found settled never = absurd never
   answered_known session old new e t (Changes rev changes) found settled never = absurd never
   answered_known session old new e t (Anchors rev anchors) found settled never = absurd never
   answered_known session old new e t (Places rev places) found settled never = absurd never

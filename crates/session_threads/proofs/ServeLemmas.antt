@@ -7,7 +7,7 @@ use Rattle.locked_replica.specs.Calls.{IsCall}
 use Rattle.locked_replica.specs.Hub.{Parts, state_of}
 use Rattle.session_lines.specs.Saying.{number_of}
 use Rattle.session_lines.specs.declared.answer.Answer.{Answer}
-use Rattle.session_lines.specs.declared.answer.Answer.TheVariants.{Edited, Text, Spans, Changes, Anchors, Places, Exported}
+use Rattle.session_lines.specs.declared.answer.Answer.TheVariants.{Edited, Text, Spans, Versions, Changes, Anchors, Places, Exported}
 use Rattle.session_lines.specs.declared.answer.Answer.TheVariants.{Status, Peers, Documents, Room, Stopped, Done, Refused, RefusedAt}
 use Rattle.session_lines.specs.declared.refusal.Refusal.{Refusal}
 use Rattle.session_lines.specs.declared.refusal.Refusal.TheVariants.{Failed}
@@ -28,6 +28,7 @@ module _ {D : Type 0} (facts : Ghosts D) where
       inr (failed, record { given = t; commit = commit; only = only; calls = (between, call, calls); cause = cause })
   answered session old between new e t (Text rev text) call never = absurd never
   answered session old between new e t (Spans rev spans) call never = absurd never
+  answered session old between new e t (Versions rev versions) call never = absurd never
   answered session old between new e t (Changes rev changes) call never = absurd never
   answered session old between new e t (Anchors rev anchors) call never = absurd never
   answered session old between new e t (Places rev places) call never = absurd never

@@ -10,7 +10,7 @@ use Rattle.session_lines.specs.Saying.{number_of}
 use Rattle.session_lines.specs.declared.command.Command.{Command}
 use Rattle.session_lines.specs.declared.command.Command.TheVariants as command
 use Rattle.session_lines.specs.declared.answer.Answer.{Answer}
-use Rattle.session_lines.specs.declared.answer.Answer.TheVariants.{Edited, Text, Spans, Changes, Anchors, Places, Exported}
+use Rattle.session_lines.specs.declared.answer.Answer.TheVariants.{Edited, Text, Spans, Versions, Changes, Anchors, Places, Exported}
 use Rattle.session_lines.specs.declared.answer.Answer.TheVariants.{Status, Peers, Documents, Room, Stopped, Done, Refused, RefusedAt}
 use Rattle.session_lines.specs.declared.refusal.Refusal.{Refusal}
 use Rattle.session_threads.specs.Exchanges.{IsAnswered, Exchange, Exchanges}
@@ -33,6 +33,7 @@ module _ {D : Type 0} (facts : Ghosts D) where
   edit_goes session old new e (Refused refusal) (inr (failed, it)) = ((edit session e, ticket it.given) ∷ (ack it.given, acknowledged false) ∷ it.commit, it.calls)
   edit_goes session old new e (Text rev text) never = absurd never
   edit_goes session old new e (Spans rev spans) never = absurd never
+  edit_goes session old new e (Versions rev versions) never = absurd never
   edit_goes session old new e (Changes rev changes) never = absurd never
   edit_goes session old new e (Anchors rev anchors) never = absurd never
   edit_goes session old new e (Places rev places) never = absurd never
@@ -55,8 +56,9 @@ module _ {D : Type 0} (facts : Ghosts D) where
   command_goes old new (command.Edit p) answer (inl it) =
       let e = asked_now old.hub.replica p in edit_goes_unless (comes_too_late old e) old new e answer refl it
   command_goes old new (command.Edit p) answer (inr (looked_up, in_time, said, same)) = stays old new same
-  command_goes old new (command.Text doc) answer (said, same) = stays old new same
-  command_goes old new (command.Spans doc) answer (said, same) = stays old new same
+  command_goes old new (command.Text doc at_rev) answer (said, same) = stays old new same
+  command_goes old new (command.Spans doc at_rev) answer (said, same) = stays old new same
+  command_goes old new (command.Versions doc every) answer (said, same) = stays old new same
   command_goes old new (command.Changes doc since) answer (said, same) = stays old new same
   command_goes old new (command.Anchors doc at side) answer (said, same) = stays old new same
   command_goes old new (command.Places doc anchors) answer (said, same) = stays old new same

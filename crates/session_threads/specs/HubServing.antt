@@ -3,6 +3,7 @@ use Rattle.std.specs.Prelude.{◌≡◌, ◌≢◌, ◌⊎◌, ℕ, ◌<◌, tak
 use Rattle.std.specs.Prelude.{Option, Some, None, is_none}
 use Rattle.disk_trait.specs.declared.facts.DiskFacts.{Ghosts}
 use Rattle.list_counts.specs.Documents.{all_counted, held_room}
+use Rattle.list_counts.specs.Versions.{versions}
 use Rattle.op_model.specs.Actions.{Asked}
 use Rattle.op_model.specs.declared.change_step.ChangeStep.{ChangeStep}
 use Rattle.op_model.specs.declared.lasting.Lasting.{Lasting}
@@ -17,6 +18,7 @@ use Rattle.hub_parts.specs.declared.meeting.TheConstants.{BEGIN_TRIES}
 use Rattle.locked_replica.specs.Hub.{Parts, state_of}
 use Rattle.placed_edits.specs.Placed.{Placed}
 use Rattle.replica_core.specs.Changed.{AreChangesSince}
+use Rattle.replica_core.specs.Past.{spans_past, text_past}
 use Rattle.replica_core.specs.Places.{anchors_of, are_within, places_of}
 use Rattle.replica_core.specs.RefusedAt.{place_told}
 use Rattle.span_export.specs.Exported.{exported}
@@ -26,7 +28,7 @@ use Rattle.session_lines.specs.Saying.{number_of}
 use Rattle.session_lines.specs.declared.command.Command.{Command}
 use Rattle.session_lines.specs.declared.command.Command.TheVariants as command
 use Rattle.session_lines.specs.declared.answer.Answer.{Answer}
-use Rattle.session_lines.specs.declared.answer.Answer.TheVariants.{Edited, Text, Spans, Changes, Anchors, Places, Exported}
+use Rattle.session_lines.specs.declared.answer.Answer.TheVariants.{Edited, Text, Spans, Versions, Changes, Anchors, Places, Exported}
 use Rattle.session_lines.specs.declared.answer.Answer.TheVariants.{Status, Peers, Documents, Room, Stopped, Refused, RefusedAt}
 use Rattle.session_lines.specs.declared.answer.State.{State}
 use Rattle.session_lines.specs.declared.answer.State.TheVariants as state
@@ -36,17 +38,34 @@ use Rattle.session_threads.specs.HeldDesk.{HeldDesk}
 use Rattle.locked_replica.specs.Run.{Calls}
 use Rattle.session_threads.specs.HubCalls.{AreOfCommit, CannotSettle, Commits}
 
--- the text of a document, or out of memory
-abbrev pub ServesText : {D : Type 0} → HeldDesk D → ℕ → Answer → Type 0
-ServesText desk doc answer =
-    let list = desk.hub.replica.list in
-    (answer ≡ Text (rev list doc) (text list doc)) ⊎ (answer ≡ Refused Memory)
+-- what is found is answered so; where nothing is, the number asked with is stale
+abbrev pub or_stale : {A : Type 0} → (A → Answer) → Option A → Answer
+or_stale f None = Refused Stale
+or_stale f (Some x) = f x
 
--- the spans of a document, or out of memory
-abbrev pub ServesSpans : {D : Type 0} → HeldDesk D → ℕ → Answer → Type 0
-ServesSpans desk doc answer =
+-- the text of a document of these operations: of now, or as it was when it had so many, which it may not have had
+abbrev pub text_answer : List Op → ℕ → Option ℕ → Answer
+text_answer list doc None = Text (rev list doc) (text list doc)
+text_answer list doc (Some count) = or_stale (λ seen. Text count seen) (text_past list doc count)
+
+-- its spans likewise
+abbrev pub spans_answer : List Op → ℕ → Option ℕ → Answer
+spans_answer list doc None = Spans (rev list doc) (spans list doc)
+spans_answer list doc (Some count) = or_stale (λ seen. Spans count seen) (spans_past list doc count)
+
+-- so the text of a document is answered, or out of memory
+abbrev pub ServesText : {D : Type 0} → HeldDesk D → ℕ → Option ℕ → Answer → Type 0
+ServesText desk doc at_rev answer = (answer ≡ text_answer desk.hub.replica.list doc at_rev) ⊎ (answer ≡ Refused Memory)
+
+-- so its spans are, or out of memory
+abbrev pub ServesSpans : {D : Type 0} → HeldDesk D → ℕ → Option ℕ → Answer → Type 0
+ServesSpans desk doc at_rev answer = (answer ≡ spans_answer desk.hub.replica.list doc at_rev) ⊎ (answer ≡ Refused Memory)
+
+-- the versions of a document, or out of memory
+abbrev pub ServesVersions : {D : Type 0} → HeldDesk D → ℕ → ℕ → Answer → Type 0
+ServesVersions desk doc every answer =
     let list = desk.hub.replica.list in
-    (answer ≡ Spans (rev list doc) (spans list doc)) ⊎ (answer ≡ Refused Memory)
+    (answer ≡ Versions (rev list doc) (versions list doc every)) ⊎ (answer ≡ Refused Memory)
 
 -- where a text stands in a document of these operations
 abbrev pub found_answer : List Op → ℕ → List ℕ → ℕ → Answer
@@ -199,8 +218,9 @@ module _ {D : Type 0} (facts : Ghosts D) where
   -- what is answered to a command, and what the desk is then
   abbrev pub Serves : HeldDesk D → Command → Answer → HeldDesk D → Type 0
   Serves old (command.Edit p) answer new = ServesPlaced old p answer new
-  Serves old (command.Text doc) answer new = ServesText old doc answer × (new ≡ old)
-  Serves old (command.Spans doc) answer new = ServesSpans old doc answer × (new ≡ old)
+  Serves old (command.Text doc at_rev) answer new = ServesText old doc at_rev answer × (new ≡ old)
+  Serves old (command.Spans doc at_rev) answer new = ServesSpans old doc at_rev answer × (new ≡ old)
+  Serves old (command.Versions doc every) answer new = ServesVersions old doc every answer × (new ≡ old)
   Serves old (command.Changes doc since) answer new = ServesChanges old doc since answer × (new ≡ old)
   Serves old (command.Anchors doc at side) answer new = ServesAnchors old doc at side answer × (new ≡ old)
   Serves old (command.Places doc anchors) answer new = ServesPlaces old doc anchors answer × (new ≡ old)

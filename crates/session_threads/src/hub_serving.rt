@@ -1,7 +1,7 @@
 //! The commands that a desk over a hub serves.
-ghost use Rattle.std.specs.Prelude.{◌≡◌};
+ghost use Rattle.std.specs.Prelude.{◌≡◌, None, Some};
 ghost use Rattle.session_threads.specs.HubServing.{comes_too_late, ServesEdit, ServesPlaced, ServesText};
-ghost use Rattle.session_threads.specs.HubServing.{ServesSpans};
+ghost use Rattle.session_threads.specs.HubServing.{ServesSpans, ServesVersions};
 ghost use Rattle.session_threads.specs.HubServing.{ServesChanges, ServesAnchors, ServesPlaces, ServesStatus};
 ghost use Rattle.session_threads.specs.HubServing.{ServesFind, ServesExport};
 ghost use Rattle.session_threads.specs.HubServing.{ServesDocuments, ServesPeers, ServesRoom, ServesStop};
@@ -16,7 +16,7 @@ use op_model::{Action, EditText, Neighbour};
 use placed_edits::PlacedAction;
 use session_lines::{
     Answer, ChangeList, Command, DocumentList, LastingList, Numbers, PeerList, PlaceList, Refusal,
-    SpanList, State,
+    SpanList, State, VersionList,
 };
 use span_export::Form;
 use std::alloc::Global;
@@ -31,8 +31,9 @@ impl<D: Disk> Desk for HubDesk<D> {
     fn serve(&mut self, alloc: Global, command: Command) -> Answer {
         match command {
             Command::Edit(placed) => self.edit_placed(alloc, &placed),
-            Command::Text { doc } => self.text(doc),
-            Command::Spans { doc } => self.spans(doc),
+            Command::Text { doc, at_rev } => self.text(doc, at_rev),
+            Command::Spans { doc, at_rev } => self.spans(doc, at_rev),
+            Command::Versions { doc, every } => self.versions(doc, every),
             Command::Changes { doc, since } => self.changes(doc, since),
             Command::Anchors { doc, at, side } => self.anchors(doc, &at, side),
             Command::Places { doc, anchors } => self.places(doc, &anchors),
@@ -83,9 +84,29 @@ impl<D: Disk> HubDesk<D> {
         self.is_stopping && self.hub.known(edit).is_none()
     }
 
+    /// The text of a document, of now or as it was when it had so many operations.
+    fn text(&self, doc: u32, at_rev: Option<u32>) -> Answer
+        ensures { ServesText self.now doc at_rev result }
+    {
+        match at_rev {
+            None => self.text_now(doc),
+            Some(rev) => self.text_at(doc, rev),
+        }
+    }
+
+    /// The spans of a document likewise.
+    fn spans(&self, doc: u32, at_rev: Option<u32>) -> Answer
+        ensures { ServesSpans self.now doc at_rev result }
+    {
+        match at_rev {
+            None => self.spans_now(doc),
+            Some(rev) => self.spans_at(doc, rev),
+        }
+    }
+
     /// The text of a document.
-    fn text(&self, doc: u32) -> Answer
-        ensures { ServesText self.now doc result }
+    fn text_now(&self, doc: u32) -> Answer
+        ensures { ServesText self.now doc None result }
     {
         match self.hub.text(doc) {
             Ok(text) => Answer::Text {
@@ -96,9 +117,50 @@ impl<D: Disk> HubDesk<D> {
         }
     }
 
+    /// The text of a document as it was when it had so many operations.
+    fn text_at(&self, doc: u32, rev: u32) -> Answer
+        ensures { ServesText self.now doc (Some rev) result }
+    {
+        match self.hub.text_at(doc, rev as usize) {
+            Ok(Some(text)) => Answer::Text {
+                rev: rev as u64,
+                text,
+            },
+            Ok(None) => Answer::Refused(Refusal::Stale),
+            Err(_) => Answer::Refused(Refusal::Memory),
+        }
+    }
+
+    /// The spans of a document as it was when it had so many operations.
+    fn spans_at(&self, doc: u32, rev: u32) -> Answer
+        ensures { ServesSpans self.now doc (Some rev) result }
+    {
+        match self.hub.spans_at(doc, rev as usize) {
+            Ok(Some(spans)) => Answer::Spans {
+                rev: rev as u64,
+                spans: SpanList::from(spans),
+            },
+            Ok(None) => Answer::Refused(Refusal::Stale),
+            Err(_) => Answer::Refused(Refusal::Memory),
+        }
+    }
+
+    /// The versions of a document.
+    fn versions(&self, doc: u32, every: u32) -> Answer
+        ensures { ServesVersions self.now doc every result }
+    {
+        match self.hub.versions(doc, every) {
+            Ok(versions) => Answer::Versions {
+                rev: self.hub.rev(doc) as u64,
+                versions: VersionList::from(versions),
+            },
+            Err(_) => Answer::Refused(Refusal::Memory),
+        }
+    }
+
     /// The text of a document, cut where its marks change.
-    fn spans(&self, doc: u32) -> Answer
-        ensures { ServesSpans self.now doc result }
+    fn spans_now(&self, doc: u32) -> Answer
+        ensures { ServesSpans self.now doc None result }
     {
         match self.hub.spans(doc) {
             Ok(spans) => Answer::Spans {

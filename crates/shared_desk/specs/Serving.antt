@@ -1,11 +1,11 @@
 -- What a desk over a shared hub answers to a command, and what it makes of its pass.
 use Rattle.std.specs.Prelude.{◌≡◌, ◌≢◌, ◌⊎◌, ℕ, ◌≤◌, ◌<◌, Bool, true, false, Option, Some, None, List, All, length}
 use Rattle.list_counts.specs.Documents.{all_counted, held_room}
+use Rattle.list_counts.specs.Versions.{versions}
 use Rattle.op_model.specs.Actions.{Asked}
 use Rattle.op_model.specs.declared.lasting.Lasting.{Lasting}
 use Rattle.op_model.specs.declared.lasting.Neighbour.{Neighbour}
-use Rattle.op_model.specs.Text.{text, rev}
-use Rattle.op_model.specs.Spans.{spans}
+use Rattle.op_model.specs.Text.{rev}
 use Rattle.op_model.specs.Machine.{Ticket, ack, acknowledged, known_ticket}
 use Rattle.hub_parts.specs.Locked.{LockedHeld}
 use Rattle.hub_parts.specs.Refusal.{number_of as number_of_locked}
@@ -15,7 +15,7 @@ use Rattle.session_lines.specs.Saying.{number_of}
 use Rattle.session_lines.specs.declared.command.Command.{Command}
 use Rattle.session_lines.specs.declared.command.Command.TheVariants as command
 use Rattle.session_lines.specs.declared.answer.Answer.{Answer}
-use Rattle.session_lines.specs.declared.answer.Answer.TheVariants.{Edited, Text, Spans, Changes, Anchors, Places, Exported}
+use Rattle.session_lines.specs.declared.answer.Answer.TheVariants.{Edited, Text, Spans, Versions, Changes, Anchors, Places, Exported}
 use Rattle.session_lines.specs.declared.answer.Answer.TheVariants.{Status, Peers, Documents, Room, Stopped, Done, Refused, RefusedAt}
 use Rattle.session_lines.specs.declared.answer.State.{State}
 use Rattle.session_lines.specs.declared.answer.State.TheVariants as state
@@ -23,7 +23,7 @@ use Rattle.session_lines.specs.declared.refusal.Refusal.{Refusal}
 use Rattle.session_lines.specs.declared.refusal.Refusal.TheVariants.{Memory, Failed, Stopping}
 use Rattle.replica_core.specs.Places.{places_of}
 use Rattle.span_export.specs.declared.exporting.Form.{Form}
-use Rattle.session_threads.specs.HubServing.{anchors_answer, AnswersChanges, exported_answer, found_answer}
+use Rattle.session_threads.specs.HubServing.{anchors_answer, AnswersChanges, exported_answer, found_answer, spans_answer, text_answer}
 use Rattle.session_threads.specs.HubCalls.{is_edit_refusal as is_hub_refusal}
 use Rattle.shared_hub.specs.Books.{PassHeld}
 use Rattle.shared_hub.specs.Guarded.{after_ticket}
@@ -69,6 +69,7 @@ ServesEdit old asks (Refused refusal) new =
 ServesEdit old asks (RefusedAt refusal at) new = (refusal ≢ Stopping) × IsRefusedEdit old asks refusal (Some at) new
 ServesEdit old asks (Text rev t) new = ⊥
 ServesEdit old asks (Spans rev s) new = ⊥
+ServesEdit old asks (Versions rev versions) new = ⊥
 ServesEdit old asks (Changes rev changes) new = ⊥
 ServesEdit old asks (Anchors rev anchors) new = ⊥
 ServesEdit old asks (Places rev places) new = ⊥
@@ -86,19 +87,23 @@ ServesPlaced old p answer new =
     ServesEdit old (asked_then p) answer new
     ⊎ ((are_placed p.spots ≡ true) × MomentOf old (λ l. known_ticket l.replica p.asked ≡ None) × (answer ≡ Refused Memory) × (new ≡ old))
 
--- the text of a document at some moment, at which the pass's entries were the kept steps of its number; or out of memory
-abbrev pub ServesText : PassHeld → ℕ → Answer → PassHeld → Type 0
-ServesText old doc answer new =
-    (new ≡ old)
-    × ((answer ≡ Refused Memory)
-    ⊎ MomentOf old (λ l. answer ≡ Text (rev l.replica.list doc) (text l.replica.list doc)))
+-- the text of a document at some moment, at which the pass's entries were the kept steps of its number, or as it was before that; or out of
+-- memory
+abbrev pub ServesText : PassHeld → ℕ → Option ℕ → Answer → PassHeld → Type 0
+ServesText old doc at_rev answer new =
+    (new ≡ old) × ((answer ≡ Refused Memory) ⊎ MomentOf old (λ l. answer ≡ text_answer l.replica.list doc at_rev))
 
 -- the spans of a document likewise
-abbrev pub ServesSpans : PassHeld → ℕ → Answer → PassHeld → Type 0
-ServesSpans old doc answer new =
+abbrev pub ServesSpans : PassHeld → ℕ → Option ℕ → Answer → PassHeld → Type 0
+ServesSpans old doc at_rev answer new =
+    (new ≡ old) × ((answer ≡ Refused Memory) ⊎ MomentOf old (λ l. answer ≡ spans_answer l.replica.list doc at_rev))
+
+-- the versions of a document at some moment, or out of memory
+abbrev pub ServesVersions : PassHeld → ℕ → ℕ → Answer → PassHeld → Type 0
+ServesVersions old doc every answer new =
     (new ≡ old)
     × ((answer ≡ Refused Memory)
-    ⊎ MomentOf old (λ l. answer ≡ Spans (rev l.replica.list doc) (spans l.replica.list doc)))
+    ⊎ MomentOf old (λ l. answer ≡ Versions (rev l.replica.list doc) (versions l.replica.list doc every)))
 
 -- what changed in a document at some moment, or that its number of then isn't known any more or not yet; or out of memory
 abbrev pub ServesChanges : PassHeld → ℕ → ℕ → Answer → PassHeld → Type 0
@@ -175,8 +180,9 @@ ServesStop old answer new =
 -- what is answered to a command, and what the pass is then
 abbrev pub Serves : PassHeld → Command → Answer → PassHeld → Type 0
 Serves old (command.Edit p) answer new = ServesPlaced old p answer new
-Serves old (command.Text doc) answer new = ServesText old doc answer new
-Serves old (command.Spans doc) answer new = ServesSpans old doc answer new
+Serves old (command.Text doc at_rev) answer new = ServesText old doc at_rev answer new
+Serves old (command.Spans doc at_rev) answer new = ServesSpans old doc at_rev answer new
+Serves old (command.Versions doc every) answer new = ServesVersions old doc every answer new
 Serves old (command.Changes doc since) answer new = ServesChanges old doc since answer new
 Serves old (command.Anchors doc at side) answer new = ServesAnchors old doc at side answer new
 Serves old (command.Places doc anchors) answer new = ServesPlaces old doc anchors answer new

@@ -5,6 +5,7 @@
 
 mod desk;
 mod ending;
+mod past;
 mod reading;
 mod serving;
 

@@ -1,4 +1,5 @@
 //! What a desk over a shared hub reads: each answer is that of one moment, under the hub's lock.
+ghost use Rattle.std.specs.Prelude.{None};
 ghost use Rattle.shared_desk.specs.Serving.{ServesAnchors, ServesChanges, ServesDocuments};
 ghost use Rattle.shared_desk.specs.Serving.{ServesExport, ServesFind, ServesPeers, ServesPlaces};
 ghost use Rattle.shared_desk.specs.Serving.{ServesRoom, ServesSpans, ServesStatus, ServesText};
@@ -19,8 +20,8 @@ use std::sync::Wait;
 impl<'a, R: Wait, J: BookNames, C: Checkpoint> SharedDesk<'a, R, J, C> {
     /// The text of a document. Those who read take turns, since a reading holds the hub's lock: so
     /// an edit, which takes that lock a few times, waits for no more readings than that.
-    pub(crate) fn text(&mut self, doc: u32) -> Answer
-        ensures { ServesText self.old doc result self.new }
+    pub(crate) fn text_now(&mut self, doc: u32) -> Answer
+        ensures { ServesText self.old doc None result self.new }
     {
         let _turn = self.daemon.read_turn.lock(self.daemon.rt);
         match self.daemon.shared.text(self.daemon.rt, &mut self.pass, doc) {
@@ -30,8 +31,8 @@ impl<'a, R: Wait, J: BookNames, C: Checkpoint> SharedDesk<'a, R, J, C> {
     }
 
     /// The text of a document, cut where its marks change, in turn with others who read.
-    pub(crate) fn spans(&mut self, doc: u32) -> Answer
-        ensures { ServesSpans self.old doc result self.new }
+    pub(crate) fn spans_now(&mut self, doc: u32) -> Answer
+        ensures { ServesSpans self.old doc None result self.new }
     {
         let _turn = self.daemon.read_turn.lock(self.daemon.rt);
         match self

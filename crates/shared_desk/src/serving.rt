@@ -32,8 +32,9 @@ impl<'a, R: Wait, J: BookNames, C: Checkpoint> Desk for SharedDesk<'a, R, J, C> 
     fn serve(&mut self, alloc: Global, command: Command) -> Answer {
         match command {
             Command::Edit(placed) => self.edit(alloc, &placed),
-            Command::Text { doc } => self.text(doc),
-            Command::Spans { doc } => self.spans(doc),
+            Command::Text { doc, at_rev } => self.text(doc, at_rev),
+            Command::Spans { doc, at_rev } => self.spans(doc, at_rev),
+            Command::Versions { doc, every } => self.versions(doc, every),
             Command::Changes { doc, since } => self.changes(doc, since),
             Command::Anchors { doc, at, side } => self.anchors(doc, &at, side),
             Command::Places { doc, anchors } => self.places(doc, &anchors),

@@ -1,5 +1,5 @@
 -- What is shown of a document as it was.
-use Rattle.std.specs.Prelude.{◌≡◌, ◌⊎◌, ◌<◌, ℕ, List, take, Result, IfOk, IfErr}
+use Rattle.std.specs.Prelude.{◌≡◌, ◌⊎◌, ◌<◌, ℕ, List, Result, IfOk, IfErr}
 use Rattle.std.specs.Global.{Vec}
 use Rattle.disk_trait.specs.declared.facts.DiskFacts.{Ghosts}
 use Rattle.group_commit.specs.Opening.{IsLookedAt}
@@ -7,17 +7,16 @@ use Rattle.op_model.specs.declared.op.Op.{Op}
 use Rattle.op_model.specs.Text.{rev}
 use Rattle.op_model.specs.Spans.{spans}
 use Rattle.recovery.specs.Image.{IsImage}
+use Rattle.replica_core.specs.Past.{up_to}
 use Rattle.span_export.specs.declared.exporting.Form.{Form}
 use Rattle.span_export.specs.Exported.{exported}
 use Rattle.store_orders.specs.Shown.{Refuses}
 use Rattle.store_orders.specs.declared.fault.Fault.{Fault}
 use Rattle.store_orders.specs.declared.fault.Fault.TheVariants.{Memory, Field}
 
--- a beginning of the list has so many operations of the document, and these bytes are what is exported of it
-pub record TellsPast (list : List Op) (doc count : ℕ) (form : Form) (bytes : List ℕ) : Type 0 where
-  pub front : ℕ
-  pub counted : rev (take front list) doc ≡ count
-  pub are : bytes ≡ exported form (spans (take front list) doc)
+-- what is exported of a document as it was when it had so many operations
+abbrev pub exported_past : List Op → ℕ → ℕ → Form → List ℕ
+exported_past list doc count form = exported form (spans (up_to list doc count) doc)
 
 -- memory was refused, or the document has fewer operations
 abbrev pub RefusesPast : List Op → ℕ → ℕ → Fault → Type 0
@@ -28,7 +27,7 @@ pub record ShowsPast {D : Type 0} (facts : Ghosts D) (doc count : ℕ) (form : F
   pub looked : (failures : ℕ) × IsLookedAt facts failures 1 old new
   pub ok : facts.tells old
       → IfOk shown (λ lines. (replica version : ℕ) × (ops : List Op) × IsImage (facts.content old) replica version ops
-      × TellsPast ops doc count form lines.items)
+      × (lines.items ≡ exported_past ops doc count form))
   pub err : facts.tells old
       → IfErr shown (λ fault. Refuses fault (facts.content old)
       ⊎ ((replica version : ℕ) × (ops : List Op) × IsImage (facts.content old) replica version ops × RefusesPast ops doc count fault))

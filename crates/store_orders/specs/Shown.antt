@@ -6,8 +6,9 @@ use Rattle.group_commit.specs.Opening.{IsLookedAt}
 use Rattle.op_model.specs.declared.op.Op.{Op}
 use Rattle.op_model.specs.Text.{text, rev}
 use Rattle.op_model.specs.Spans.{spans}
+use Rattle.list_counts.specs.Versions.{versions}
 use Rattle.session_lines.specs.Saying.{said}
-use Rattle.session_lines.specs.declared.answer.Answer.TheVariants.{Text, Spans}
+use Rattle.session_lines.specs.declared.answer.Answer.TheVariants.{Text, Spans, Versions}
 use Rattle.recovery.specs.Faults.{IsFault, number_of as number_of_open}
 use Rattle.recovery.specs.Image.{IsImage}
 use Rattle.recovery.specs.declared.open_fault.OpenError.{OpenError}
@@ -18,6 +19,10 @@ use Rattle.store_orders.specs.declared.fault.Fault.TheVariants.{Memory}
 -- its text, and the text cut where its marks change, a line each
 abbrev pub said_document : List Op → ℕ → List ℕ
 said_document list doc = said (Text (rev list doc) (text list doc)) ++ said (Spans (rev list doc) (spans list doc))
+
+-- its versions of at most so many operations each, a line
+abbrev pub said_history : List Op → ℕ → ℕ → List ℕ
+said_history list doc every = said (Versions (rev list doc) (versions list doc every))
 
 -- these bytes are what is told of the operations of a file's image
 abbrev pub TellsImage : (List Op → List ℕ) → List ℕ → List ℕ → Type 0

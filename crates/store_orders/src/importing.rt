@@ -134,7 +134,7 @@ fn serve<D: Disk>(
 
 /// The end of a document, or the answer that refuses its spans.
 fn end_of_document<K: Desk>(alloc: Global, desk: &mut K, doc: u32) -> Result<DocumentEnd, Answer> {
-    match desk.serve(alloc, Command::Spans { doc }) {
+    match desk.serve(alloc, Command::Spans { doc, at_rev: None }) {
         Answer::Spans { spans, .. } => Ok(DocumentEnd::of(doc, spans.as_slice())),
         refused => Err(refused),
     }

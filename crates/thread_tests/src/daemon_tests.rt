@@ -50,7 +50,7 @@ const SPANS_BA: &str = "{\"ok\":true,\"rev\":2,\"spans\":[{\"text\":\"ba\"}]}";
 const TEXT_BA: &str = "{\"ok\":true,\"rev\":2,\"text\":\"ba\"}";
 
 /// What is answered to the session that edits while the other one's commit is under way.
-const OF_THE_SECOND: [(&str, &str); 12] = [
+const OF_THE_SECOND: [(&str, &str); 13] = [
     (INSERT_B, REV_2),
     (TEXT, TEXT_BA),
     (SPANS, SPANS_BA),
@@ -74,6 +74,7 @@ const OF_THE_SECOND: [(&str, &str); 12] = [
         "{\"op\":\"export\",\"doc\":1,\"to\":\"text\"}",
         "{\"ok\":true,\"rev\":2,\"text\":\"ba\"}",
     ),
+    (PAST_BA, PAST_OF_BA),
     ("{\"op\":\"documents\"}", DOCUMENT_BA),
     (TWO_AT_ONCE, "{\"ok\":true,\"rev\":4}"),
     (SECOND_REFUSED, SECOND_IS_REFUSED),
@@ -83,6 +84,13 @@ const OF_THE_SECOND: [(&str, &str); 12] = [
 /// The one document, which the daemon's own replica wrote.
 const DOCUMENT_BA: &str =
     "{\"documents\":[{\"chars\":2,\"doc\":1,\"ops\":2,\"writers\":[\"00000000-0000-4000-8000-000000000001\"]}],\"ok\":true}";
+
+/// The document as it was, and its versions.
+const PAST_BA: &str =
+    "{\"op\":\"text\",\"doc\":1,\"at_rev\":1}\n{\"op\":\"spans\",\"doc\":1,\"at_rev\":3}\n{\"op\":\"versions\",\"doc\":1,\"every\":2}";
+
+const PAST_OF_BA: &str =
+    "{\"ok\":true,\"rev\":1,\"text\":\"a\"}\n{\"code\":6,\"error\":\"stale\",\"ok\":false}\n{\"ok\":true,\"rev\":2,\"versions\":[{\"ops\":2,\"replica\":\"00000000-0000-4000-8000-000000000001\",\"rev\":2}]}";
 
 /// A character comes and goes in one line, at a place that lasts.
 const TWO_AT_ONCE: &str =

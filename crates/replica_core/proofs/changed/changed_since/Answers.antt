@@ -1,6 +1,5 @@
 use native.Mathlib.Omega.{arith}
-use Rattle.std.proofs.Common.{◌≡◌, ◌≤◌, ◌∙◌, refl, ap, subst, sym, take}
-use Rattle.op_model.specs.Text.{rev}
+use Rattle.std.proofs.Common.{◌≤◌, refl, subst}
 use Rattle.replica_core.proofs.CameLemmas.{changes_told}
 use Rattle.replica_core.proofs.changed.changed_since.Goals as goal
 

@@ -1,10 +1,9 @@
-use Rattle.std.proofs.Common.{◌≡◌, ◌∙◌, ℕ, [], Some, None, ap, sym, arith, length}
+use Rattle.std.proofs.Common.{◌≡◌, ◌∙◌, [], Some, None, ap, sym, arith, length}
 use Rattle.std.proofs.lemmas.Bool.Decides.{nat_tests}
 use Rattle.std.proofs.lemmas.Result.{IfErr-weaker, IfOk-weaker}
 use Rattle.op_model.specs.Actions.{asked, refusal_of}
 use Rattle.op_model.specs.Made.{edit_refusal, made}
 use Rattle.op_model.specs.Waiting.{change_length}
-use Rattle.replica_core.specs.declared.refusal.Refusal.{Refusal}
 use Rattle.replica_core.specs.Refusal.{number_of}
 use Rattle.replica_core.proofs.SingleLemmas.{none_from, refusal_single}
 use Rattle.replica_core.proofs.deciding.action_length.Goals as goal

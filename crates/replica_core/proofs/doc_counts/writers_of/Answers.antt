@@ -1,5 +1,5 @@
-use Rattle.std.proofs.Common.{◌≡◌, ◌∙◌, drop, filter, map, ap, sym, ℕ, List}
-use Rattle.list_counts.specs.Documents.{writers, wrote}
+use Rattle.std.proofs.Common.{◌∙◌, filter, map, ap, sym, ℕ}
+use Rattle.list_counts.specs.Documents.{wrote}
 use Rattle.replica_core.specs.Docs.{doc_number}
 use Rattle.replica_core.proofs.DocCountLemmas.{few_replicas, more_writer, no_writer, writers_end}
 use Rattle.replica_core.proofs.doc_counts.writers_of.Goals as goal

@@ -1,4 +1,4 @@
-use Rattle.std.proofs.Common.{◌≡◌, ◌++◌, drop, filter, map, ℕ}
+use Rattle.std.proofs.Common.{◌≡◌, ◌++◌, drop, filter, map}
 use Rattle.list_counts.specs.Documents.{wrote}
 use Rattle.replica_core.specs.Docs.{doc_number}
 use Rattle.replica_core.proofs.doc_counts.writers_of.Given as goal

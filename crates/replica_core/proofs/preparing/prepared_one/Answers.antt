@@ -1,9 +1,8 @@
-use Rattle.std.proofs.Common.{◌≡◌, ◌+◌, ◌<◌, ◌++◌, ◌∙◌, [], ap, sym, refl, arith, length, length-append}
+use Rattle.std.proofs.Common.{◌≡◌, ◌++◌, ◌∙◌, [], ap, sym, refl, arith, length, length-append}
 use Rattle.model_laws.proofs.InTurn.{action_single}
 use Rattle.op_model.specs.Actions.{asked, made_by_action}
 use Rattle.op_model.specs.Causality.{clock_of}
 use Rattle.op_model.specs.Made.{made, size_of}
-use Rattle.op_model.specs.Text.{rev}
 use Rattle.replica_core.proofs.LimitLemmas.{length-made}
 use Rattle.replica_core.proofs.SoundLemmas.{due_asks_right, due_counts, due_within, rev-made}
 use Rattle.replica_core.proofs.preparing.prepared_one.Goals as goal

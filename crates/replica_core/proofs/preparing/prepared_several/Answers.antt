@@ -1,4 +1,4 @@
-use Rattle.std.proofs.Common.{◌≡◌, ◌∙◌, ◌+◌, List, ◌<◌, ◌≤◌, ◌++◌, ◌∷◌, [], ap, subst, sym, refl, None, rules, arith, length, length-append, drop}
+use Rattle.std.proofs.Common.{◌≡◌, ◌∙◌, ◌+◌, List, ◌<◌, ◌++◌, ◌∷◌, [], ap, subst, sym, refl, None, rules, arith, length, length-append, drop}
 use Rattle.std.proofs.lemmas.List.{drop_more}
 use Rattle.std.proofs.lemmas.List.Sums.{count_by-le-length}
 use Rattle.std.proofs.Math.ListN.{drop_of_length-le}

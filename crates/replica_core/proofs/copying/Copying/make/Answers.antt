@@ -1,10 +1,10 @@
-use Rattle.std.proofs.Common.{◌≡◌, ◌+◌, ◌++◌, ◌∙◌, ap, Err, refl, sym, rules, arith, length}
+use Rattle.std.proofs.Common.{◌≡◌, ◌++◌, ◌∙◌, ap, Err, refl, sym, rules, arith, length}
 use Rattle.std.proofs.lemmas.Bool.{true≢false}
 use Rattle.doc_core.proofs.FittingLemmas.{made_fit}
 use Rattle.doc_core.proofs.NamingLemmas.{edit_there}
 use Rattle.model_laws.proofs.OneChange.{closed-due, greatest-due, length-due}
 use Rattle.op_model.specs.Actions.{edit_of}
-use Rattle.op_model.specs.Made.{greatest_counter, made}
+use Rattle.op_model.specs.Made.{made}
 use Rattle.replica_core.proofs.EditLemmas.{keeps_all}
 use Rattle.replica_core.proofs.SoundLemmas.{due_within}
 use Rattle.replica_core.specs.Docs.{doc_number}

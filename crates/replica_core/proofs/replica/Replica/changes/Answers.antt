@@ -1,9 +1,8 @@
 use native.Mathlib.Omega.{arith}
-use Rattle.std.proofs.Common.{◌≡◌, ◌∙◌, refl, ap, map, subst, sym}
+use Rattle.std.proofs.Common.{◌≡◌, ◌∙◌, refl, ap, map, subst}
 use Rattle.op_model.specs.Causality.{IsCausallyClosed}
 use Rattle.op_model.specs.Held.{ReplicaHeld}
 use Rattle.op_model.specs.declared.change_step.ChangeStep.TheVariants.{Put}
-use Rattle.replica_core.specs.Docs.{AreDocs}
 use Rattle.replica_core.proofs.CameLemmas.{put_since_none}
 use Rattle.replica_core.proofs.DocLemmas.{docs_up}
 use Rattle.replica_core.proofs.replica.Replica.changes.Goals as goal

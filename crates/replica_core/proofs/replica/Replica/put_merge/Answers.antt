@@ -34,9 +34,7 @@ invariant_of-self-2 c =
     let can = rw (← c.self.view_is) at c.requires in
     let at : c.len-index.result ≡ length c.self.inside.log.list = search rules in
     let counts : c.advance.new.clock ≡ advanced c.self.inside.clock c.args.op.id.replica = rw (c.in_ok-clock.ensures, c.replica.ensures) at c.in_ok-advance.ensures in
-    let docs = rw c.deref-2.ensures.value at c.at.ensures.stands in
-    let again = c.removes_again-is_repeat.ensures c.self.inside.log.list (docs c.self.inside.log.list c.self.invariant.docs)
-    (c.at.ensures.number ∙ c.new-empty.ensures.number) can.joins.follows in
+    let again = (rw c.deref-2.ensures.value at c.is_repeat-is_repeat.ensures) c.self.inside.log.list c.self.invariant.docs can.joins.follows in
     rw c.push.ensures
     (AreFields-merge c.self.inside.id c.self.inside.opened c.self.inside.settled c.self.inside.acked c.self.inside.told c.args.peer c.len-index.result
     c.self.inside.steps c.self.inside.log c.append.new.self c.in_ok-made.made c.args.op c.self.inside.clock c.advance.new.clock c.self.inside.tokens
@@ -60,9 +58,7 @@ pub invariant_of-self-in-Err-Memory : goal.invariant_of-self-in-Err-Memory
 invariant_of-self-in-Err-Memory c =
     let can = rw (← c.self.view_is) at c.requires in
     let at : c.len-index.result ≡ length c.self.inside.log.list = search rules in
-    let docs = rw c.deref-2.ensures.value at c.at.ensures.stands in
-    let again = c.removes_again-is_repeat.ensures c.self.inside.log.list (docs c.self.inside.log.list c.self.invariant.docs)
-    (c.at.ensures.number ∙ c.new-empty.ensures.number) can.joins.follows in
+    let again = (rw c.deref-2.ensures.value at c.is_repeat-is_repeat.ensures) c.self.inside.log.list c.self.invariant.docs can.joins.follows in
     let noted = c.in_ok-note.ensures.noted c.self.inside.log.list c.args.op c.self.invariant.repeats (sym at) again in
     let same = c.in-Err-Memory.ensures.err in
     rw (same.list, same.docs) (record {

@@ -1,12 +1,9 @@
-use Rattle.std.proofs.Common.{◌≡◌, ◌∙◌, length, ap, Err, rules, arith}
+use Rattle.std.proofs.Common.{◌≡◌, ◌∙◌, length, ap, Err, rules}
 use Rattle.op_model.specs.Actions.{made_by_action, Asked}
 use Rattle.replica_core.specs.Edited.{ops_of}
 use Rattle.replica_core.proofs.FollowLemmas.{stream_fits}
-use Rattle.replica_core.specs.Fields.{held_of}
-use Rattle.op_model.specs.Held.{ReplicaHeld}
 use Rattle.replica_core.proofs.ActionLemmas.{action_own, action_tokens, fit, fits, within}
-use Rattle.replica_core.proofs.EditedLemmas.{new_edit_alone-due, held_of-edit, AreFields-edit}
-use Rattle.edit_tokens.proofs.PlaceLemmas.{kept_there}
+use Rattle.replica_core.proofs.EditedLemmas.{AreFields-edit}
 use Rattle.replica_core.proofs.replica.Replica.put_prepared.Goals as goal
 
 pub append_edited-requires-clause-room : goal.append_edited-requires-clause-room

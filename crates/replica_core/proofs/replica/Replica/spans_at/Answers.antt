@@ -1,13 +1,11 @@
 use Rattle.std.proofs.Common.{◌∙◌, ap, take}
 use Rattle.op_model.specs.Spans.{spans}
+use Rattle.replica_core.proofs.PastLemmas.{past_spans, told_then}
 use Rattle.replica_core.proofs.replica.Replica.spans_at.Goals as goal
 
-pub returns-in_ok-spans-in-Some-clause-spans : goal.returns-in_ok-spans-in-Some-clause-spans
-returns-in_ok-spans-in-Some-clause-spans c =
+pub returns-in_ok-spans-in-Some : goal.returns-in_ok-spans-in-Some
+returns-in_ok-spans-in-Some c =
     let past = rw c.in-Some.is at c.in_ok-past.ensures.was in
-    record {
-      front = past.front;
-      counted = past.counted;
-      are = c.in_ok-spans-in-Some.ensures.spans (take past.front c.args.self.now.list) past.stands
-          ∙ ap (λ n. spans (take past.front c.args.self.now.list) n) past.number;
-    }
+    let there = rw c.in-Some.is at c.in_ok-past.ensures.there in
+    told_then _ _ _ there (c.in_ok-spans-in-Some.ensures.spans (take past.front c.args.self.now.list) past.stands
+    ∙ (ap (λ n. spans (take past.front c.args.self.now.list) n) past.number ∙ past_spans c.args.self.now.list c.args.doc c.args.rev past.front past.counted))
