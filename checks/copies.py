@@ -17,7 +17,7 @@ FIXED = ("crates/fixed_numbers/src/limits.rt", "crates/fixed_numbers/src/sizes.r
 # The longest record of a character that is taken away, with its length: 16 deps and a token.
 REMOVAL = 4 + 1 + 4 + 8 + 16 + 1 + 16 * 24 + 16 + 24
 # A client's own check of a field, by the name of its rule.
-HELD = re.compile(r'^ +"?([a-z ]+)"?: ', re.MULTILINE)
+HELD = re.compile(r'^ +"?([a-z_ ]+)"?: ', re.MULTILINE)
 
 
 def same(checks, what, found, wanted):

@@ -70,7 +70,7 @@ def check_edit(checks, recorder):
     answered(checks, "edit", recorder.ended("edit", name, data), [answers])
     os.remove(name + ".calls")
     data = read(name)
-    for words in (("dump", name, "1"), ("list", name), ("export", name, "7")):
+    for words in (("dump", name, "1"), ("list", name), ("export", name, "7"), ("history", name, "7")):
         run(recorder.program, *words, env=recorder.around(name))
         recorder.ended(words[0], name, data, pattern=READING)
         os.remove(name + ".calls")

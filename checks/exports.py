@@ -12,7 +12,7 @@ import urllib.parse
 
 from locks import Session
 from page_file import root
-from program import delete, fault, insert, line, new_file, read, run
+from program import REPLICA, delete, fault, insert, line, new_file, read, run
 
 COMMENT = "0f5d2c4e-9a1b-4c3d-8e7f-112233445566"
 OTHER = "00000000-0000-0000-0000-000000000000"
@@ -200,6 +200,19 @@ def room(size, documents, operations, replicas):
                 operations_limit=1 << 24, replicas=replicas, replicas_limit=16)
 
 
+def check_history(checks, program):
+    """The versions of documents of one replica, of which one has four operations and one two."""
+    for doc, cuts, words in ((7, (4,), ()), (7, (3, 4), ("--every", "3")), (1, (1, 2), ("--every=1",)), (9, (), ())):
+        versions = [{"ops": rev - before, "replica": REPLICA, "rev": rev} for before, rev in zip((0, *cuts), cuts)]
+        wanted = line(ok=True, rev=cuts[-1] if cuts else 0, versions=versions)
+        checks.same(f"history of {doc} {words}", run(program, "history", "listed", str(doc), *words), (0, wanted, b""))
+    for every in ("0", "4294967296", "x", ""):
+        checks.same(f"history by {every!r}", run(program, "history", "listed", "7", f"--every={every}"), fault(4))
+    checks.same("history of document 0", run(program, "history", "listed", "0"), fault(4))
+    checks.same("history without a document", run(program, "history", "listed")[0], 2)
+    checks.same("history of no file", run(program, "history", "none", "7"), fault(54))
+
+
 def check_list(checks, program):
     new_file(program, "listed")
     checks.same("list of an empty file", run(program, "list", "listed"), (0, room(0, 0, 0, 0), b""))
@@ -212,6 +225,7 @@ def check_list(checks, program):
     checks.same("list of two documents", found, (0, lines, b""))
     data = read("listed")
     checks.same("the bytes of its stream", root(data)[1], 49 + 69 + 82)
+    check_history(checks, program)
     checks.same("list of no file", run(program, "list", "none"), fault(54))
     checks.same("export of no file", run(program, "export", "none", "1"), fault(54))
     checks.same("export of another document", run(program, "export", "listed", "9"), (0, b"", b""))
@@ -224,12 +238,13 @@ def check_list(checks, program):
     for words in (["list"], ["list", "a", "b"], ["export", "listed"], ["export", "listed", "1", "--to"],
                   ["export", "listed", "1", "--breaks", "--breaks"], ["export", "listed", "1", "--breaks=yes"]):
         checks.same(f"status of {words}", run(program, *words)[0], 2)
-    for words in (["list", "--help"], ["export", "--help"]):
+    for words in (["list", "--help"], ["export", "--help"], ["history", "--help"]):
         checks.holds(f"an example in {words}", b"Example" in run(program, *words)[1])
     checks.holds("no number to copy in the help of init", not re.search(rb"[0-9a-f]{8}-[0-9a-f]{4}", run(program, "init", "--help")[1]))
     session = Session(program, "listed")
     session.ask(line(op="status"))
     checks.same("list of a held file", run(program, "list", "listed"), fault(54))
+    checks.same("history of a held file", run(program, "history", "listed", "7"), fault(54))
     checks.same("export of a held file", run(program, "export", "listed", "1"), fault(54))
     session.end()
     checks.same("they change nothing", read("listed"), data)

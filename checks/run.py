@@ -46,6 +46,7 @@ import memory
 import noise
 import parted_files
 import parting
+import past
 import peers
 import places
 import put_back
@@ -74,7 +75,7 @@ OF_FILES = (
 )
 # Over daemons.
 OF_DAEMONS = (
-    serving, served_limits, asking, journal, web_pages, last_place, peers, places, changes, edits, at_places, finding, documents_told, watching,
+    serving, served_limits, asking, journal, web_pages, last_place, peers, places, changes, edits, at_places, finding, documents_told, past, watching,
     watching_several, web_sockets, parting, put_back, backups, parted_files, idle_links, rude, noise, worst, session_memory, renewal,
 )
 LANES = OF_FILES, OF_DAEMONS
