@@ -30,9 +30,11 @@ export function answerOf(line, request) {
  * @param {Record<string, any>} request
  * @returns {Fields}
  */
-function fieldsOf({ op, docs, from = 0 }) {
+function fieldsOf({ op, docs, from = 0, at_rev, every }) {
   // Whoever goes on after the last one comes to an end.
   if (op === "find") return { rev: isNumber, places: risingFrom(from) };
+  if (op === "versions") return { rev: isNumber, versions: versionsOf(every) };
+  if ((op === "text" || op === "spans") && at_rev !== undefined) return { ...FIELDS.get(op), rev: (value) => value === at_rev };
   if (op === "watch" && docs !== undefined) return { doc: (value) => isCount(value) && (docs === "all" || docs.includes(value)), rev: isNumber };
   return FIELDS.get(op) ?? {};
 }
@@ -127,6 +129,16 @@ function all(fields) {
 }
 
 /**
+ * Whether each has its fields, and at most `every` operations, which add up to its `rev`.
+ * @param {number} every
+ */
+function versionsOf(every) {
+  let sum = 0;
+  const isNext = (/** @type {any} */ { ops, rev }) => ops <= every && rev === (sum += ops);
+  return (/** @type {any} */ value) => VERSIONS(value) && value.every(isNext);
+}
+
+/**
  * Whether each has its fields, and their numbers rise.
  * @param {any} value
  */
@@ -182,6 +194,7 @@ const STEPS = new Map(
 );
 const PEERS = all({ has: isNumber, lacks: isNumber, replica: isText });
 const ROWS = all({ doc: isCount, chars: isNumber, ops: isCount, writers: areTexts });
+const VERSIONS = all({ ops: isCount, replica: isText, rev: isCount });
 const REFUSAL = { code: isNumber, error: isText };
 const EDITED = { rev: isNumber };
 

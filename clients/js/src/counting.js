@@ -1,9 +1,15 @@
-/** What is counted of a file: its documents, and its room. */
+/** What is counted of a file: its documents, their versions, and its room. */
 
 /**
  * A document that has operations: its number, how many characters (Unicode scalar values) it shows, how many operations it has,
  * and the replicas that have some in it, in rising order. A removed character still counts among the operations.
  * @typedef {{number: number, characters: number, operations: number, writers: string[]}} DocumentCounts
+ */
+
+/**
+ * A stretch of a document's operations, all of one replica: how many operations the document has after it, whose they are, and
+ * how many.
+ * @typedef {{rev: number, replica: string, operations: number}} Version
  */
 
 /**
@@ -24,6 +30,15 @@ export const PARTS = ["bytes", "documents", "operations", "replicas", "steps"];
 export function countsOf({ documents }) {
   const rows = /** @type {import("./wire.js").Row[]} */ (documents);
   return rows.map(({ doc, chars, ops, writers }) => ({ number: doc, characters: chars, operations: ops, writers }));
+}
+
+/**
+ * What an answer to `versions` tells.
+ * @param {import("./wire.js").Answer} answer
+ * @returns {Version[]}
+ */
+export function versionsOf({ versions }) {
+  return versions.map(({ rev, replica, ops }) => ({ rev, replica, operations: ops }));
 }
 
 /**

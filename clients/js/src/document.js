@@ -3,6 +3,7 @@
 import { givenOf } from "./aborting.js";
 import { cut, needsNumber } from "./action.js";
 import { parts, stretches } from "./calls.js";
+import { versionsOf } from "./counting.js";
 import { findAll } from "./finding.js";
 import { askAll, editAll, make, needKnown } from "./making.js";
 import { keyOf } from "./marks.js";
@@ -16,6 +17,7 @@ import { LONGEST, isLasting, isWhole } from "./rules.js";
  * @typedef {import("./action.js").Place} Place
  * @typedef {import("./action.js").PlacedEdit} PlacedEdit
  * @typedef {import("./changing.js").Changes} Changes
+ * @typedef {import("./counting.js").Version} Version
  * @typedef {import("./marks.js").Mark} Mark
  * @typedef {import("./marks.js").Span} Span
  */
@@ -41,6 +43,11 @@ import { LONGEST, isLasting, isWhole } from "./rules.js";
  * A question's: the `rev` of a text that was read, so that the answer is of just this text, or `Stale`.
  * @typedef {Abortable & {rev?: number}} AskOptions
  * @typedef {AskOptions & {side?: Side}} AnchorOptions
+ */
+
+/**
+ * That of what is shown: after how many of the document's operations, if it isn't the one of now.
+ * @typedef {Abortable & {atRev?: number}} PastOptions
  */
 
 /**
@@ -183,11 +190,13 @@ export class Document {
   }
 
   /**
-   * The text.
-   * @param {Abortable} [options]
+   * The text; with `atRev` as it was after the document's first so many operations. It is `Stale` if the document has fewer. It
+   * costs what opening so much of the document does.
+   * @param {PastOptions} [options]
    */
   async text(options) {
-    return (await this.read(options)).text;
+    const { text } = await this.session.send({ op: "text", doc: this.number, at_rev: options?.atRev }, options);
+    return text;
   }
 
   /**
@@ -201,8 +210,8 @@ export class Document {
   }
 
   /**
-   * The text in runs of equal marks.
-   * @param {Abortable} [options]
+   * The text in runs of equal marks, with `atRev` as it was then.
+   * @param {PastOptions} [options]
    */
   async spans(options) {
     return (await this.readSpans(options)).spans;
@@ -210,12 +219,24 @@ export class Document {
 
   /**
    * The spans with their `rev`.
-   * @param {Abortable} [options]
+   * @param {PastOptions} [options]
    * @returns {Promise<{spans: Span[], rev: number}>}
    */
   async readSpans(options) {
-    const { spans, rev } = await this.session.send({ op: "spans", doc: this.number }, options);
+    const { spans, rev } = await this.session.send({ op: "spans", doc: this.number, at_rev: options?.atRev }, options);
     return { spans, rev };
+  }
+
+  /**
+   * The document's operations as versions, the first one first: each is of one replica, and of at most `every` operations. The
+   * `rev` of one is what `text` and `spans` take as `atRev`. A document without operations has none. An earlier program refuses
+   * it (3).
+   * @param {number} every
+   * @param {Abortable} [options]
+   * @returns {Promise<Version[]>}
+   */
+  async versions(every, options) {
+    return versionsOf(await this.session.send({ op: "versions", doc: this.number, every }, options));
   }
 
   /**

@@ -13,6 +13,7 @@
  * @typedef {import("./connecting.js").Options} ConnectOptions
  * @typedef {import("./counting.js").DocumentCounts} DocumentCounts
  * @typedef {import("./counting.js").Room} Room
+ * @typedef {import("./counting.js").Version} Version
  * @typedef {import("./document.js").ActionOptions} ActionOptions
  * @typedef {import("./document.js").AnchorOptions} AnchorOptions
  * @typedef {import("./document.js").AskOptions} AskOptions
@@ -20,6 +21,7 @@
  * @typedef {import("./document.js").ExportOptions} ExportOptions
  * @typedef {import("./document.js").FindOptions} FindOptions
  * @typedef {import("./document.js").Form} Form
+ * @typedef {import("./document.js").PastOptions} PastOptions
  * @typedef {import("./document.js").Side} Side
  * @typedef {import("./finding.js").Found} Found
  * @typedef {import("./following.js").Change} Change

@@ -52,5 +52,6 @@ export const MUCH = "what one action takes away waits together for the disk, 2,0
 export const OLDER = "an older program knows no";
 export const RENEW = "start one that is as new as this client";
 export const TOKEN = "an older program knows no `token`; start one that is as new as this client";
+export const PAST = "an older program knows no `at_rev`; start one that is as new as this client";
 export const PLACE = "an older program takes no places that last in edits; start one that is as new as this client";
 export const ONE_LINE = "one line takes 1,024 edits, of at most 256 characters each, and 65,536 bytes: make several actions, or let it be parted";

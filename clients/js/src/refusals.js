@@ -1,6 +1,6 @@
 /** What the program answers in place of a result. */
 
-import { ADVICE, FIELD, FULL, LIMIT, LONG, MEND, MUCH, OLDER, PLACE, RENEW, REQUEST, STALE, TOKEN } from "./refusal_table.js";
+import { ADVICE, FIELD, FULL, LIMIT, LONG, MEND, MUCH, OLDER, PAST, PLACE, RENEW, REQUEST, STALE, TOKEN } from "./refusal_table.js";
 import { LATER } from "./request_table.js";
 import { areEdits, broken, isLong, isPlaced } from "./rules.js";
 
@@ -38,6 +38,7 @@ function ofFields(request, otherwise) {
  * @param {Record<string, unknown>} request
  */
 function unknownTo(request) {
+  if (request.at_rev !== undefined) return PAST;
   if (isPlaced(request)) return PLACE;
   return request.token === undefined ? ADVICE[FIELD] : TOKEN;
 }

@@ -14,6 +14,7 @@ export const NEEDED = {
   edits: "doc edits",
   text: "doc",
   spans: "doc",
+  versions: "doc every",
   changes: "doc since",
   anchors: "doc at side",
   places: "doc anchors",
@@ -43,6 +44,8 @@ export const OPTIONAL = {
   mark: "rev token",
   unmark: "rev token",
   edits: "rev token",
+  text: "at_rev",
+  spans: "at_rev",
   find: "from",
   export: "breaks",
 };
@@ -64,6 +67,8 @@ export const RULES = {
   url: "a text of 1 to 1024 bytes",
   id: "a UUID",
   edits: "a list of 1 to 1024 edits, each an insert, delete, mark or unmark without `doc`, `rev` and `token`",
+  at_rev: "a whole number from 0 to 4294967295",
+  every: "a whole number from 1 to 4294967295",
   since: "a whole number from 0 to 4294967295",
   "anchors at": "a list of 1 to 256 whole numbers from 0 to 4294967295",
   side: "previous or next",
@@ -94,4 +99,4 @@ export const SIDES = ["previous", "next"];
 export const FORMS = ["text", "markdown", "html"];
 
 /** The requests that an older program doesn't know. */
-export const LATER = ["edits", "changes", "anchors", "places", "find", "export", "documents", "room", "watch"];
+export const LATER = ["edits", "versions", "changes", "anchors", "places", "find", "export", "documents", "room", "watch"];

@@ -186,6 +186,8 @@ const HOLDS = {
   from: isPlace,
   to: isPlace,
   rev: from(0),
+  at_rev: from(0),
+  every: from(1),
   since: from(0),
   text: isText,
   kind: (value) => KINDS.includes(/** @type {string} */ (value)),

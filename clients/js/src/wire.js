@@ -19,8 +19,10 @@
  * @typedef {import("./changing.js").Step} Step
  * @typedef {{has: number, lacks: number, replica: string}} Peer
  * @typedef {{chars: number, doc: number, ops: number, writers: string[]}} Row
+ * @typedef {{ops: number, replica: string, rev: number}} Stretch
  * @typedef {{ok: true, rev: number, text: string, spans: Span[], changes: Step[], anchors: import("./rules.js").Lasting[], places: (number | null)[],
- *   applied: number, settled: number, state: string, peers: Peer[], sessions: number, doc: number, documents: Row[] | number}} Answer
+ *   applied: number, settled: number, state: string, peers: Peer[], sessions: number, doc: number, documents: Row[] | number,
+ *   versions: Stretch[]}} Answer
  */
 
 export {};

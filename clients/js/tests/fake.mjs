@@ -4,11 +4,13 @@ import { Model } from "./model.mjs";
 
 const TOKEN = /^(?!0{8}-0{4}-0{4}-0{4}-0{12}$)[0-9a-f]{8}(-[0-9a-f]{4}){3}-[0-9a-f]{12}$/;
 const WORDS = { 2: "syntax", 3: "request", 4: "field", 5: "range", 6: "stale", 7: "limit", 12: "stopping" };
-const READS = new Set(["text", "spans", "changes", "find", "export"]);
+const READS = new Set(["text", "spans", "versions", "changes", "find", "export"]);
 const EDITS = new Set(["insert", "delete", "mark", "unmark"]);
 /** The replica of all stores. */
 const WRITER = "00000000-0000-4000-8000-000000000001";
 const LIMITS = { bytes_limit: 2 ** 30, documents_limit: 1_024, operations_limit: 2 ** 24, replicas_limit: 16, steps_limit: 2 ** 20 };
+/** The greatest number of a request. */
+const GREATEST = 2 ** 32 - 1;
 /** How many edits are made at once. */
 const MANY = 1_024;
 
@@ -73,6 +75,7 @@ export class Store {
     if (token !== undefined && (READS.has(op) || !TOKEN.test(token))) return 4;
     if (this.#tokens.has(token)) return { rev: this.#tokens.get(token) };
     const document = this.document(doc);
+    if (op === "versions") return Number.isInteger(request.every) && request.every > 0 && request.every <= GREATEST ? { rev: document.rev, versions: versions(document, request.every) } : 4;
     if (!READS.has(op) && rev !== undefined && rev !== document.rev) return 6;
     const told = op === "edits" ? made(document, request) : document[op](request);
     if (typeof told === "number" || told?.code !== undefined) return told;
@@ -84,6 +87,12 @@ export class Store {
 /** What is counted of a document. */
 function counted(doc, document) {
   return { chars: document.at(document.rev).length, doc, ops: document.rev, writers: [WRITER] };
+}
+
+/** The versions of a document that one replica has made. */
+function versions({ rev }, every) {
+  const begun = [...Array(Math.ceil(rev / every)).keys()].map((number) => number * every);
+  return begun.map((before) => ({ ops: Math.min(every, rev - before), replica: WRITER, rev: Math.min(before + every, rev) }));
 }
 
 /** Not as the program counts it: each operation takes as many bytes, and is a step. */

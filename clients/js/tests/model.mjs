@@ -83,19 +83,27 @@ export class Model {
     }
   }
 
-  text() {
-    return { text: this.at(this.rev).map((character) => character.text).join("") };
+  text({ at_rev: rev = this.rev } = {}) {
+    return this.#refusalOf(rev) ?? { rev, text: this.at(rev).map((character) => character.text).join("") };
   }
 
-  spans() {
+  /** Why it can't be told as it was. */
+  #refusalOf(rev) {
+    if (!isPlace(rev) || rev > GREATEST) return 4;
+    return rev > this.rev ? 6 : undefined;
+  }
+
+  spans({ at_rev: rev = this.rev } = {}) {
+    const refusal = this.#refusalOf(rev);
+    if (refusal !== undefined) return refusal;
     const spans = [];
-    for (const character of this.at(this.rev)) {
-      const marks = marksOf(character);
+    for (const character of this.at(rev)) {
+      const marks = marksOf(character, rev);
       const last = spans[spans.length - 1];
       if (last !== undefined && isSame(last.marks, marks)) last.text += character.text;
       else spans.push({ marks, text: character.text });
     }
-    return { spans: spans.map(({ marks, text }) => ({ ...marks, text })) };
+    return { rev, spans: spans.map(({ marks, text }) => ({ ...marks, text })) };
   }
 
   find({ text, from = 0, rev }) {

@@ -29,6 +29,7 @@ run("again");
 run("changing");
 run("found");
 run("counted");
+run("past");
 run("watch_many");
 run("modelled");
 run("following");

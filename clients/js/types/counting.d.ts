@@ -5,16 +5,27 @@
  */
 export function countsOf({ documents }: import("./wire.js").Answer): DocumentCounts[];
 /**
+ * What an answer to `versions` tells.
+ * @param {import("./wire.js").Answer} answer
+ * @returns {Version[]}
+ */
+export function versionsOf({ versions }: import("./wire.js").Answer): Version[];
+/**
  * What an answer to `room` tells.
  * @param {import("./wire.js").Answer} answer
  * @returns {Room}
  */
 export function roomOf(answer: import("./wire.js").Answer): Room;
-/** What is counted of a file: its documents, and its room. */
+/** What is counted of a file: its documents, their versions, and its room. */
 /**
  * A document that has operations: its number, how many characters (Unicode scalar values) it shows, how many operations it has,
  * and the replicas that have some in it, in rising order. A removed character still counts among the operations.
  * @typedef {{number: number, characters: number, operations: number, writers: string[]}} DocumentCounts
+ */
+/**
+ * A stretch of a document's operations, all of one replica: how many operations the document has after it, whose they are, and
+ * how many.
+ * @typedef {{rev: number, replica: string, operations: number}} Version
  */
 /**
  * How much a file has of what there is a limit to, each with its limit: bytes of records, documents and replicas that have
@@ -33,6 +44,15 @@ export type DocumentCounts = {
     characters: number;
     operations: number;
     writers: string[];
+};
+/**
+ * A stretch of a document's operations, all of one replica: how many operations the document has after it, whose they are, and
+ * how many.
+ */
+export type Version = {
+    rev: number;
+    replica: string;
+    operations: number;
 };
 /**
  * How much a file has of what there is a limit to, each with its limit: bytes of records, documents and replicas that have

@@ -4,6 +4,7 @@
  * @typedef {import("./action.js").Place} Place
  * @typedef {import("./action.js").PlacedEdit} PlacedEdit
  * @typedef {import("./changing.js").Changes} Changes
+ * @typedef {import("./counting.js").Version} Version
  * @typedef {import("./marks.js").Mark} Mark
  * @typedef {import("./marks.js").Span} Span
  */
@@ -25,6 +26,10 @@
  * A question's: the `rev` of a text that was read, so that the answer is of just this text, or `Stale`.
  * @typedef {Abortable & {rev?: number}} AskOptions
  * @typedef {AskOptions & {side?: Side}} AnchorOptions
+ */
+/**
+ * That of what is shown: after how many of the document's operations, if it isn't the one of now.
+ * @typedef {Abortable & {atRev?: number}} PastOptions
  */
 /**
  * A search's: the place from which on it looks.
@@ -131,29 +136,39 @@ export class Document {
      */
     edit(fields: Record<string, unknown>, rev?: number | EditOptions | undefined, token?: string | EditOptions | undefined, options?: EditOptions | undefined): Promise<number>;
     /**
-     * The text.
-     * @param {Abortable} [options]
+     * The text; with `atRev` as it was after the document's first so many operations. It is `Stale` if the document has fewer. It
+     * costs what opening so much of the document does.
+     * @param {PastOptions} [options]
      */
-    text(options?: import("./aborting.js").Abortable | undefined): Promise<string>;
+    text(options?: PastOptions | undefined): Promise<string>;
     /**
      * The text with its `rev`, and edits of just this text.
      * @param {Abortable} [options]
      */
     read(options?: import("./aborting.js").Abortable | undefined): Promise<Reading>;
     /**
-     * The text in runs of equal marks.
-     * @param {Abortable} [options]
+     * The text in runs of equal marks, with `atRev` as it was then.
+     * @param {PastOptions} [options]
      */
-    spans(options?: import("./aborting.js").Abortable | undefined): Promise<import("./marks.js").Span[]>;
+    spans(options?: PastOptions | undefined): Promise<import("./marks.js").Span[]>;
     /**
      * The spans with their `rev`.
-     * @param {Abortable} [options]
+     * @param {PastOptions} [options]
      * @returns {Promise<{spans: Span[], rev: number}>}
      */
-    readSpans(options?: import("./aborting.js").Abortable | undefined): Promise<{
+    readSpans(options?: PastOptions | undefined): Promise<{
         spans: Span[];
         rev: number;
     }>;
+    /**
+     * The document's operations as versions, the first one first: each is of one replica, and of at most `every` operations. The
+     * `rev` of one is what `text` and `spans` take as `atRev`. A document without operations has none. An earlier program refuses
+     * it (3).
+     * @param {number} every
+     * @param {Abortable} [options]
+     * @returns {Promise<Version[]>}
+     */
+    versions(every: number, options?: import("./aborting.js").Abortable | undefined): Promise<Version[]>;
     /**
      * The text as a page, with its marks: `html`, `markdown`, or `text` without them. Each line of it is a paragraph, an empty
      * one too, or a break of the line where `breaks` is `true`.
@@ -232,6 +247,7 @@ export type Lasting = import("./action.js").Lasting;
 export type Place = import("./action.js").Place;
 export type PlacedEdit = import("./action.js").PlacedEdit;
 export type Changes = import("./changing.js").Changes;
+export type Version = import("./counting.js").Version;
 export type Mark = import("./marks.js").Mark;
 export type Span = import("./marks.js").Span;
 /**
@@ -264,6 +280,12 @@ export type AskOptions = Abortable & {
  */
 export type AnchorOptions = AskOptions & {
     side?: Side;
+};
+/**
+ * That of what is shown: after how many of the document's operations, if it isn't the one of now.
+ */
+export type PastOptions = Abortable & {
+    atRev?: number;
 };
 /**
  * A search's: the place from which on it looks.

@@ -52,6 +52,10 @@ export type Room = import("./counting.js").Room;
 /**
  * The types of what calls take and give.
  */
+export type Version = import("./counting.js").Version;
+/**
+ * The types of what calls take and give.
+ */
 export type ActionOptions = import("./document.js").ActionOptions;
 /**
  * The types of what calls take and give.
@@ -77,6 +81,10 @@ export type FindOptions = import("./document.js").FindOptions;
  * The types of what calls take and give.
  */
 export type Form = import("./document.js").Form;
+/**
+ * The types of what calls take and give.
+ */
+export type PastOptions = import("./document.js").PastOptions;
 /**
  * The types of what calls take and give.
  */

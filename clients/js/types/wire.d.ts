@@ -48,6 +48,14 @@ export type Row = {
 /**
  * An answer has those of these fields that its request asks for.
  */
+export type Stretch = {
+    ops: number;
+    replica: string;
+    rev: number;
+};
+/**
+ * An answer has those of these fields that its request asks for.
+ */
 export type Answer = {
     ok: true;
     rev: number;
@@ -63,4 +71,5 @@ export type Answer = {
     sessions: number;
     doc: number;
     documents: Row[] | number;
+    versions: Stretch[];
 };

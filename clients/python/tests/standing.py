@@ -8,6 +8,9 @@ from fake import FakeDaemon
 
 # How many places one answer tells.
 SOME = 1_024
+# The greatest number of a request, and the replica of all that is put in.
+WHOLE = 2**32 - 1
+REPLICA = "0f5d2c4e-9a1b-4c3d-8e7f-112233445566"
 
 
 class StandIn(FakeDaemon):
@@ -15,6 +18,8 @@ class StandIn(FakeDaemon):
 
     def __init__(self):
         self.texts, self.revs = {}, {}
+        # What was put in where, of each document.
+        self.made = {}
         self.before = lambda request: None
         self._change = threading.Condition()
         self._goes = True
@@ -24,6 +29,7 @@ class StandIn(FakeDaemon):
         with self._change:
             shown = self.texts.get(doc, "")
             self.texts[doc], self.revs[doc] = shown[:at] + text + shown[at:], self.revs.get(doc, 0) + len(text)
+            self.made.setdefault(doc, []).append((at, text))
             self._change.notify_all()
             return {"rev": self.revs[doc]}
 
@@ -72,7 +78,9 @@ class StandIn(FakeDaemon):
         if op in ("insert", "edits"):
             return self._edited(request)
         if op == "text":
-            return {"rev": rev, "text": text}
+            return self._then(doc, request.get("at_rev", rev))
+        if op == "versions":
+            return _versions(rev, request["every"])
         if op == "find":
             if not 1 <= len(request["text"]) <= 256:
                 return {"code": 4, "error": "field"}
@@ -83,6 +91,18 @@ class StandIn(FakeDaemon):
         if op == "export":
             return {"code": 4, "error": "field"}
         return {"code": 3, "error": "request"}
+
+    def _then(self, doc, rev):
+        """The text after so many of the document's characters were put in."""
+        if type(rev) is not int or not 0 <= rev <= WHOLE:
+            return {"code": 4, "error": "field"}
+        if rev > self.revs.get(doc, 0):
+            return {"code": 6, "error": "stale"}
+        shown, left = "", rev
+        for at, text in self.made.get(doc, []):
+            more = text[:left]
+            shown, left = shown[:at] + more + shown[at:], left - len(more)
+        return {"rev": rev, "text": shown}
 
     def _page(self, text, rev, request):
         """Not as the program does it: nothing is escaped."""
@@ -102,3 +122,11 @@ class StandIn(FakeDaemon):
     def close(self):
         self._goes = False
         super().close()
+
+
+def _versions(rev, every):
+    """The versions of a document that one replica has made."""
+    if type(every) is not int or not 1 <= every <= WHOLE:
+        return {"code": 4, "error": "field"}
+    found = [{"ops": min(every, rev - before), "replica": REPLICA, "rev": min(before + every, rev)} for before in range(0, rev, every)]
+    return {"rev": rev, "versions": found}

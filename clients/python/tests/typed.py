@@ -36,6 +36,10 @@ def waits() -> List[peritext.Span]:
         free: int = 100 - len(page)
         counted: List[peritext.DocumentCounts] = session.documents()
         writers: List[str] = [writer for it in counted for writer in it.writers]
+        versions: List[peritext.Version] = session.document(1).versions(every=100)
+        was: str = session.document(1).text(at_rev=versions[0].rev)
+        free = len(was) + len(session.document(1).spans(at_rev=0))
+        session.document(1).versions()  # type: ignore[call-arg]
         room: peritext.Room = session.room()
         free += room.bytes_limit - room.bytes + len(writers)
         room.steps = 0  # type: ignore[misc]

@@ -12,6 +12,7 @@ import { redo, undo } from "./history.js";
 import { Lines } from "./lists/lines.js";
 import { FIRST, MOST, NAMES, REMARKS, lineOf, namedIn, newNumber, textsIn, toldApart } from "./lists/names.js";
 import { Notice } from "./notice.js";
+import { Past } from "./past/past.js";
 import { remembered } from "./remembered.js";
 import { Search } from "./search/search.js";
 import { showSelection } from "./shown_selection.js";
@@ -33,6 +34,7 @@ export class Peer {
   #tools;
   #comments;
   #search;
+  #past;
   #relay;
   #writers;
   #legend;
@@ -82,6 +84,13 @@ export class Peer {
       tell,
       leave: (range) => this.#leaveSearch(range),
     });
+    this.#past = new Past(place, name, {
+      text: () => this.#open,
+      writers: this.#writers,
+      onChange: () => this.#update(),
+      refuse: (why) => this.#refuse(why),
+      leave: () => this.#open.view?.focus(),
+    });
     for (const part of [".tools", ".thread", ".search"]) this.#showsSelectionIn(this.#part(part));
     for (const part of [".texts", ".thread"]) this.#part(part).addEventListener("input", () => this.#notice.clear("hint"));
     this.#relay = new CaretRelay(() => this.#tellOthers());
@@ -125,6 +134,7 @@ export class Peer {
   }
 
   #show(number) {
+    this.#past.close();
     this.#open?.finder?.seek("");
     this.#open = this.#editorOf(number);
     this.#open.show(this.#part(".page"));
@@ -238,6 +248,7 @@ export class Peer {
     this.#notice.clear("hint");
     if (what === "comment" && this.#comments.begin()) return;
     if (what === "find") return this.#search.open(selectedWords(this.#open.view.state));
+    if (what === "history") return this.#past.toggle();
     if (what === "writers") this.#colour();
     else if (!this.#dispatched(commands[what])) this.#hint(what, address);
     this.#open.view.focus();
@@ -258,6 +269,7 @@ export class Peer {
   /** Shows the colours anew, as after somebody was given a name. */
   recolour() {
     this.#open.authors?.redraw();
+    this.#past.update();
   }
 
   #hint(what, address) {
@@ -274,7 +286,7 @@ export class Peer {
     saved.dataset.state = waiting === 0 ? "saved" : "waiting";
     saved.textContent = view === undefined ? "not read yet" : waiting === 0 ? "saved" : `${waiting} ${waiting === 1 ? "edit waits" : "edits wait"}`;
     this.#texts.update(this.#named, this.number);
-    if (view !== undefined) this.#tools.update(view.state, this.#isColoured);
+    if (view !== undefined) this.#tools.update(view.state, { writers: this.#isColoured, history: this.#past.isOpen });
     this.#search.update();
     this.#legend.update(this.#isColoured ? (this.#open.authors?.seen ?? []).map((by) => this.#writers.writer(by)) : []);
     this.#comments.update();

@@ -90,6 +90,11 @@ export class TextEditor {
     return this.#binding.rev;
   }
 
+  /** The document, of the session that there is; nothing between two of them. */
+  get document() {
+    return this.#text?.document;
+  }
+
   async pull() {
     await this.#binding.pull();
   }

@@ -33,12 +33,14 @@ export class Tools {
   }
 
   /**
-   * Shows which marks there are where the caret is, and whether the text is coloured by who wrote it.
+   * Shows which marks there are where the caret is, and what is switched on: the colours of the writers, or the text as it was,
+   * which nothing else here is about.
    * @param {import("prosemirror-state").EditorState} state
-   * @param {boolean} isColoured
+   * @param {{writers: boolean, history: boolean}} isOn
    */
-  update(state, isColoured) {
-    this.#place.querySelector('[data-do="writers"]').setAttribute("aria-pressed", isColoured);
+  update(state, isOn) {
+    for (const [what, is] of Object.entries(isOn)) this.#place.querySelector(`[data-do="${what}"]`).setAttribute("aria-pressed", is);
+    for (const tool of this.#place.querySelectorAll("button, input")) tool.disabled = isOn.history && tool.dataset.do !== "history";
     for (const mark of ["strong", "em", "link"]) {
       this.#place.querySelector(`[data-do="${mark}"]`).setAttribute("aria-pressed", has(state, schema.marks[mark]));
     }

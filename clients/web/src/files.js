@@ -23,6 +23,7 @@ function importMap() {
     ["peritext", "/client/index.js"],
     ["peritext/prosemirror", "/client/prosemirror.js"],
     ["peritext/positions", "/client/paragraphs/positions.js"],
+    ["peritext/characters", "/client/paragraphs/characters.js"],
   ];
   return JSON.stringify({ imports: Object.fromEntries([...names, ...client]) });
 }

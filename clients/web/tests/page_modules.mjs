@@ -8,6 +8,7 @@ import { modules } from "../src/packages.js";
 const client = [
   ["peritext", new URL("../../js/src/index.js", import.meta.url).href],
   ["peritext/prosemirror", new URL("../../js/src/prosemirror.js", import.meta.url).href],
+  ["peritext/characters", new URL("../../js/src/paragraphs/characters.js", import.meta.url).href],
   ["peritext/positions", new URL("../../js/src/paragraphs/positions.js", import.meta.url).href],
 ];
 const packages = modules().map(([name, file]) => [name, pathToFileURL(file).href]);

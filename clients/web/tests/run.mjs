@@ -45,5 +45,5 @@ await run("demo", missing() ?? noProgram);
 await run("kills", missing() ?? noProgram);
 await run("lists", missing() ?? noProgram);
 await run("told_of_all", missing());
-const shown = ["carets", "texts", "search", "comments", "threads", "authors", "looks", "tools", "pasting", "selection"];
+const shown = ["carets", "texts", "search", "past", "comments", "threads", "authors", "looks", "tools", "pasting", "selection"];
 for (const name of ["clock", "browser", "places", "background", ...shown, "typing", "wire"]) await run(name, missing() ?? noProgram ?? missingBrowser());

@@ -6,7 +6,7 @@ import { FIRST, withPage } from "./page.mjs";
 import { test } from "./timed.mjs";
 
 /** What a screen reader says of each button. */
-const LABELS = { strong: "Bold", em: "Italic", link: "Link", comment: "Comment", undo: "Undo", redo: "Redo", writers: "Colours of the writers", find: "Find" };
+const LABELS = { strong: "Bold", em: "Italic", link: "Link", comment: "Comment", undo: "Undo", redo: "Redo", writers: "Colours of the writers", find: "Find", history: "History" };
 
 const BACKSPACE = "\uE003";
 const ENTER = "\uE006";
@@ -23,10 +23,10 @@ test("buttons and editors have names that a screen reader speaks", () =>
     }
     const pressed = () => page.browser.run(() => [...document.querySelectorAll("#alice [data-do]")].map((button) => button.getAttribute("aria-pressed")));
     await page.type("alice", "word");
-    assert.deepEqual(await pressed(), ["false", "false", "false", null, null, null, "false", null]);
+    assert.deepEqual(await pressed(), ["false", "false", "false", null, null, null, "false", null, "false"]);
     await page.select("alice", "word");
     await page.press("alice", "em");
-    assert.deepEqual(await pressed(), ["false", "true", "false", null, null, null, "false", null]);
+    assert.deepEqual(await pressed(), ["false", "true", "false", null, null, null, "false", null, "false"]);
   }));
 
 test("no two buttons or fields have one name", () =>

@@ -1,7 +1,7 @@
 // What a program in TypeScript may write, and what it may not: `@ts-expect-error` is an error itself if the line below it is none.
 
 import { EM, Following, Reading, STRONG, Session, Stale, applied, connect, delta, follow, init, link, open, watch, watchMany } from "peritext";
-import type { Change, DocumentCounts, Edit, EditOptions, Form, Found, Lasting, Mark, PlacedEdit, Reset, Room, Settled, Span, Step, Transport } from "peritext";
+import type { Change, DocumentCounts, Edit, EditOptions, Form, Found, Lasting, Mark, PlacedEdit, Reset, Room, Settled, Span, Step, Transport, Version } from "peritext";
 import { bind as bindText } from "peritext/codemirror";
 import { bind } from "peritext/prosemirror";
 import { bind as bindContents } from "peritext/quill";
@@ -78,13 +78,20 @@ export async function finds(port: number, signal: AbortSignal): Promise<string> 
   await document.export(form, { breaks: "yes" });
   // @ts-expect-error: there is no such form
   await document.export("pdf");
+  const versions: Version[] = await document.versions(100, { signal });
+  const was: string = await document.text({ atRev: versions[0].rev, signal });
+  const marked: Span[] = await document.spans({ atRev: 0 });
+  // @ts-expect-error: each is of at most so many operations
+  await document.versions();
+  // @ts-expect-error: a reading is of now
+  await document.read({ atRev: 0 });
   // @ts-expect-error: it is a list of numbers, or all
   watchMany(port, "every");
   for await (const told of watchMany(port, [1, 2], { retry: null })) {
     const { doc, rev }: Settled = told;
     if (doc + rev > 100) break;
   }
-  return `${page}${indexes}`;
+  return `${page}${indexes}${was}${marked.length}`;
 }
 
 export async function shows(port: number, signal: AbortSignal): Promise<void> {

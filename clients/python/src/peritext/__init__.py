@@ -15,7 +15,7 @@
 
 from .action import Action, Lasting
 from .changing import Changes, Delete, Insert, Retain, Step, applied
-from .counting import DocumentCounts, Room
+from .counting import DocumentCounts, Room, Version
 from .daemon import connect
 from .document import Document, Found, Reading
 from .file import init, open
@@ -58,6 +58,7 @@ __all__ = [
     "Span",
     "Stale",
     "Step",
+    "Version",
     "Watch",
     "WatchMany",
     "applied",

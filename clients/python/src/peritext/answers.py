@@ -3,6 +3,7 @@
 from __future__ import annotations
 
 import json
+from itertools import accumulate
 from typing import Any, Callable, Mapping
 
 from .counting import PARTS
@@ -40,6 +41,10 @@ def _fields_of(request: Mapping[str, Any]) -> Fields:
     if op == "find":
         # Whoever goes on after the last one comes to an end.
         return {"rev": _is_number, "places": _rising_from(request.get("from", 0))}
+    if op == "versions":
+        return {"rev": _is_number, "versions": _versions(request.get("every"))}
+    if op in ("text", "spans") and "at_rev" in request:
+        return {**_FIELDS[op], "rev": _is_same(request["at_rev"])}
     if op == "watch" and "docs" in request:
         return {"doc": _one_of(request["docs"]), "rev": _is_number}
     return _FIELDS.get(op, {}) if isinstance(op, str) else {}
@@ -140,6 +145,19 @@ def _one_of(documents: Any) -> Callable[[Any], bool]:
     return lambda value: _is_count(value) and (documents == "all" or value in documents)
 
 
+def _is_same(number: Any) -> Callable[[Any], bool]:
+    return lambda value: _is_number(value) and value == number
+
+
+def _versions(every: Any) -> Callable[[Any], bool]:
+    """Whether each has its fields, and at most `every` operations, which add up to its `rev`."""
+
+    def are(value: Any) -> bool:
+        return _all(_VERSION)(value) and all(it["ops"] <= every and it["rev"] == rev for it, rev in zip(value, accumulate(it["ops"] for it in value)))
+
+    return are
+
+
 def _are_documents(value: Any) -> bool:
     """Whether each has its fields, and their numbers rise."""
     return _all(_DOCUMENT)(value) and _rising_from(1)([it["doc"] for it in value])
@@ -156,6 +174,7 @@ def _all(fields: Fields) -> Callable[[Any], bool]:
 
 _PEER: Fields = {"has": _is_number, "lacks": _is_number, "replica": _is_text}
 _DOCUMENT: Fields = {"doc": _is_count, "chars": _is_number, "ops": _is_count, "writers": _are_texts}
+_VERSION: Fields = {"ops": _is_count, "replica": _is_text, "rev": _is_count}
 _MARKS: Fields = {"strong": _is_flag, "em": _is_flag, "link": _is_text, "comments": _are_texts}
 # The fields of a step, for each of its forms.
 _STEPS: dict[frozenset[str], Fields] = {

@@ -12,6 +12,7 @@ from uuid import UUID, uuid4, uuid5
 from .action import BEYOND, Fields, Lasting, Piece, Place, by_numbers, cut, deleting, inserting, lines_of, marking, needs_number, operations_of, pieces_of, unmarking
 from .again import NEVER
 from .changing import Changes, step_of
+from .counting import Version, versions_of
 from .marks import Mark, Span
 from .refusals import Refused, Stale
 from .rules import FOUND, LONGEST, MOST, is_lasting, is_whole, lasting_of
@@ -95,18 +96,30 @@ class Calls:
         return self._make(list(edits), rev, token, parted)
 
     def read(self) -> Call[Reading]:
-        [answer] = yield [Asked({"op": "text", "doc": self.number})]
-        return Reading(answer["text"], answer["rev"])
+        return (yield from self._read(None))
 
-    def text(self) -> Call[str]:
-        return (yield from self.read()).text
+    def text(self, at_rev: int | None) -> Call[str]:
+        return (yield from self._read(at_rev)).text
+
+    def _read(self, at_rev: int | None) -> Call[Reading]:
+        [answer] = yield [self._asked("text", at_rev)]
+        return Reading(answer["text"], answer["rev"])
 
     def rev(self) -> Call[int]:
         return (yield from self.read()).rev
 
-    def spans(self) -> Call[list[Span]]:
-        [answer] = yield [Asked({"op": "spans", "doc": self.number})]
+    def spans(self, at_rev: int | None) -> Call[list[Span]]:
+        [answer] = yield [self._asked("spans", at_rev)]
         return [Span.of(span) for span in answer["spans"]]
+
+    def _asked(self, op: str, at_rev: int | None) -> Asked:
+        """A question for the document of now, or for that of then."""
+        # An earlier program knows no `at_rev`.
+        return Asked({"op": op, "doc": self.number, **({} if at_rev is None else {"at_rev": at_rev})})
+
+    def versions(self, every: int) -> Call[list[Version]]:
+        [answer] = yield [Asked({"op": "versions", "doc": self.number, "every": every})]
+        return versions_of(answer)
 
     def export(self, form: str, breaks: bool) -> Call[str]:
         # An earlier program knows no `breaks`.

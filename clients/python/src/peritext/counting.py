@@ -1,4 +1,4 @@
-"""What is counted of a file: its documents, and its room."""
+"""What is counted of a file: its documents, their versions, and its room."""
 
 from __future__ import annotations
 
@@ -15,6 +15,15 @@ class DocumentCounts:
     characters: int
     operations: int
     writers: tuple[str, ...]
+
+
+@dataclass(frozen=True)
+class Version:
+    """A stretch of a document's operations, all of one replica: how many operations the document has after it, whose they are, and how many."""
+
+    rev: int
+    replica: str
+    operations: int
 
 
 @dataclass(frozen=True)
@@ -45,6 +54,11 @@ def counts_of(answer: Mapping[str, Any]) -> list[DocumentCounts]:
     [DocumentCounts(number=3, characters=3, operations=7, writers=('00000000-0000-4000-8000-000000000002',))]
     """
     return [DocumentCounts(it["doc"], it["chars"], it["ops"], tuple(it["writers"])) for it in answer["documents"]]
+
+
+def versions_of(answer: Mapping[str, Any]) -> list[Version]:
+    """What an answer to `versions` tells."""
+    return [Version(it["rev"], it["replica"], it["ops"]) for it in answer["versions"]]
 
 
 def room_of(answer: Mapping[str, Any]) -> Room:

@@ -8,6 +8,7 @@ from uuid import UUID
 from .action import Action, Fields, Lasting, Place
 from .calls import Calls, Found, Reading
 from .changing import Changes
+from .counting import Version
 from .marks import Mark, Span
 from .running import run
 
@@ -93,9 +94,16 @@ class Document:
         """
         return run(self.session, self._calls.edits(edits, rev, token, parted))
 
-    def text(self) -> str:
-        """The text."""
-        return run(self.session, self._calls.text())
+    def text(self, at_rev: int | None = None) -> str:
+        """The text; with `at_rev` as it was after the document's first so many operations. It is `Stale` if the document has fewer. It costs what
+        opening so much of the document does.
+
+        >>> rev = document.insert(0, "fox")
+        >>> _ = document.delete(0, 3)
+        >>> document.text(at_rev=rev)[:3]
+        'fox'
+        """
+        return run(self.session, self._calls.text(at_rev))
 
     def read(self) -> Reading:
         """The text with its `rev`.
@@ -105,9 +113,14 @@ class Document:
         """
         return run(self.session, self._calls.read())
 
-    def spans(self) -> list[Span]:
-        """The text in runs of equal marks."""
-        return run(self.session, self._calls.spans())
+    def spans(self, at_rev: int | None = None) -> list[Span]:
+        """The text in runs of equal marks, with `at_rev` as it was then."""
+        return run(self.session, self._calls.spans(at_rev))
+
+    def versions(self, every: int) -> list[Version]:
+        """The document's operations as versions, the first one first: each is of one replica, and of at most `every` operations. The `rev` of one is
+        what `text` and `spans` take as `at_rev`. A document without operations has none. An earlier program refuses it (3)."""
+        return run(self.session, self._calls.versions(every))
 
     def export(self, form: str, breaks: bool = False) -> str:
         """The text as a page, with its marks: `html`, `markdown`, or `text` without them. Each line of it is a paragraph, an empty one too; with

@@ -47,5 +47,6 @@ MUCH = "what one action takes away waits together for the disk, 2,048 characters
 OLDER = "an older program knows no"
 RENEW = "start one that is as new as this client"
 TOKEN = "an older program knows no `token`; start one that is as new as this client"
+PAST = "an older program knows no `at_rev`; start one that is as new as this client"
 PLACE = "an older program takes no places that last in edits; start one that is as new as this client"
 ONE_LINE = "one line takes 1,024 edits, of at most 256 characters each, and 65,536 bytes: make several actions, or let it be parted"

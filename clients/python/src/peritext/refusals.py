@@ -4,7 +4,7 @@ from __future__ import annotations
 
 from typing import Any, Mapping
 
-from .refusal_table import ADVICE, FIELD, FULL, LIMIT, LONG, MEND, MUCH, OLDER, PLACE, RENEW, REQUEST, STALE, TOKEN
+from .refusal_table import ADVICE, FIELD, FULL, LIMIT, LONG, MEND, MUCH, OLDER, PAST, PLACE, RENEW, REQUEST, STALE, TOKEN
 from .request_table import LATER
 from .rules import broken, is_long, is_placed
 
@@ -19,7 +19,7 @@ def sentence(number: int, request: Mapping[str, Any] | None) -> str | None:
         what = f"`{request['op']}`" + (" of many documents" if "docs" in request else "")
         return _of_fields(request, f"{OLDER} {what}; {RENEW}")
     if number == FIELD and request is not None:
-        return _of_fields(request, PLACE if is_placed(request) else TOKEN if "token" in request else ADVICE[FIELD])
+        return _of_fields(request, _unknown_to(request))
     if number == LIMIT and request is not None:
         return _of_limit(request)
     return ADVICE.get(number)
@@ -29,6 +29,13 @@ def _of_fields(request: Mapping[str, Any], otherwise: str) -> str:
     """Which rules the fields of a request break, or what else is the cause."""
     faults = broken(request)
     return f"{', '.join(faults)}; {MEND}" if faults else otherwise
+
+
+def _unknown_to(request: Mapping[str, Any]) -> str:
+    """What an older program doesn't know of a request whose fields break no rule."""
+    if "at_rev" in request:
+        return PAST
+    return PLACE if is_placed(request) else TOKEN if "token" in request else ADVICE[FIELD]
 
 
 def _of_limit(request: Mapping[str, Any]) -> str:

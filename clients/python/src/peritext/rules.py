@@ -146,6 +146,8 @@ _HOLDS: dict[str, Callable[[Any], bool]] = {
     "from": lambda value: is_whole(value, 0) or is_lasting(value),
     "to": lambda value: is_whole(value, 0) or is_lasting(value),
     "rev": _from(0),
+    "at_rev": _from(0),
+    "every": _from(1),
     "since": _from(0),
     "text": _is_text,
     "kind": lambda value: value in KINDS,

@@ -9,6 +9,7 @@ from uuid import UUID
 from ..action import Collected, Fields, Lasting, Place
 from ..calls import Calls, Found, Reading
 from ..changing import Changes
+from ..counting import Version
 from ..marks import Mark, Span
 from .following import Follow
 from .running import Runner
@@ -59,17 +60,22 @@ class Document:
         """The same as `action` with edits that are there already, each with the fields of its request other than `doc`, `rev` and `token`."""
         return await self._runner.run(self._calls.edits(edits, rev, token, parted))
 
-    async def text(self) -> str:
-        """The text."""
-        return await self._runner.run(self._calls.text())
+    async def text(self, at_rev: int | None = None) -> str:
+        """The text; with `at_rev` as it was after the document's first so many operations. It is `Stale` if the document has fewer."""
+        return await self._runner.run(self._calls.text(at_rev))
 
     async def read(self) -> Reading:
         """The text with its `rev`."""
         return await self._runner.run(self._calls.read())
 
-    async def spans(self) -> list[Span]:
-        """The text in runs of equal marks."""
-        return await self._runner.run(self._calls.spans())
+    async def spans(self, at_rev: int | None = None) -> list[Span]:
+        """The text in runs of equal marks, with `at_rev` as it was then."""
+        return await self._runner.run(self._calls.spans(at_rev))
+
+    async def versions(self, every: int) -> list[Version]:
+        """The document's operations as versions, the first one first: each is of one replica, and of at most `every` operations, as
+        `peritext.Document.versions` says."""
+        return await self._runner.run(self._calls.versions(every))
 
     async def export(self, form: str, breaks: bool = False) -> str:
         """The text as a page, with its marks: `html`, `markdown`, or `text` without them. Each line of it is a paragraph, an empty one too; with
