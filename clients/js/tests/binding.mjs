@@ -81,7 +81,7 @@ test("others see all of a transaction, or nothing", async () => {
   change(view, (tr) => tr.insert(1, schema.text("xy".repeat(400), [strong.create()])).delete(3, 1_201));
   await new Promise(setImmediate);
   transport.pass(1);
-  assert.deepEqual(store.document(1).spans(), { spans: [{ text: `xy${"abcd".repeat(100)}` }] });
+  assert.deepEqual(store.document(1).spans().spans, [{ text: `xy${"abcd".repeat(100)}` }]);
   transport.release();
   await binding.settled();
   assert.deepEqual(sent.map(({ op }) => op), ["edits", "mark"]);
