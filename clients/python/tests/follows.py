@@ -261,10 +261,15 @@ class Alone(WithFile):
 
 def faked(test, answers):
     """What follows a document of a daemon that gives these answers; where it is told what its watch is to say; and what it asks since."""
-    told, asked, answers = queue.Queue(), [], iter(answers)
+    told, asked, answers, kind = queue.Queue(), [], iter(answers), threading.local()
+
+    def greeting():
+        # Before it is greeted no other one comes, which might overtake it.
+        kind.is_watch = is_watch.pop(0)
+        return GREETING
 
     def talk(connection, lines):
-        if not is_watch.pop(0):
+        if not kind.is_watch:
             for line, answer in zip(lines, answers):
                 asked.append(json.loads(line)["since"])
                 connection.sendall(json.dumps(answer).encode() + b"\n")
@@ -274,7 +279,7 @@ def faked(test, answers):
     fake = FakeDaemon(talk)
     # The session that it is begun from, its watch, and its own session.
     is_watch = [False, True, False]
-    fake.greeting = lambda: GREETING
+    fake.greeting = greeting
     session = peritext.connect(fake.port)
     deltas = session.document(1).follow()
     for end in (lambda: told.put(None), fake.close, session.close, deltas.close):

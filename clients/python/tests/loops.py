@@ -324,10 +324,17 @@ class Follows(Served):
                 if since == 3:
                     is_answered.set()
 
-        daemon = FakeDaemon(lambda connection, lines: tell_all(connection, told) if is_watch.pop(0) else talk(connection, lines))
+        kind = threading.local()
+
+        def greeting():
+            # Before it is greeted no other one comes, which might overtake it.
+            kind.is_watch = is_watch.pop(0)
+            return GREETING
+
+        daemon = FakeDaemon(lambda connection, lines: tell_all(connection, told) if kind.is_watch else talk(connection, lines))
         # The session that it is begun from, its watch, and its own session, twice.
         is_watch = [False, True, False, False]
-        daemon.greeting = lambda: GREETING
+        daemon.greeting = greeting
         for end in (lambda: told.put(None), daemon.close, is_over.set):
             self.addCleanup(end)
 
