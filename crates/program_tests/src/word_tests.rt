@@ -1,5 +1,5 @@
 //! Words of command lines, and what they ask for.
-use crate::due_words::Due::{self, Field, Is, Port, Web};
+use crate::due_words::Due::{self, Field, Is, Web};
 use crate::due_words::gives;
 use command_syntax::{BadPort, DumpOrder, HistoryOrder, Order, ServeOrder, StoreOrder};
 use command_words::{OrderFault, order};

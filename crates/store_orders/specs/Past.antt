@@ -1,5 +1,5 @@
 -- What is shown of a document as it was.
-use Rattle.std.specs.Prelude.{◌≡◌, ◌⊎◌, ◌<◌, ℕ, List, Result, IfOk, IfErr}
+use Rattle.std.specs.Prelude.{◌≡◌, ◌⊎◌, ◌<◌, ◌≤◌, ℕ, List, Result, IfOk, IfErr}
 use Rattle.std.specs.Global.{Vec}
 use Rattle.disk_trait.specs.declared.facts.DiskFacts.{Ghosts}
 use Rattle.group_commit.specs.Opening.{IsLookedAt}
@@ -14,9 +14,9 @@ use Rattle.store_orders.specs.Shown.{Refuses}
 use Rattle.store_orders.specs.declared.fault.Fault.{Fault}
 use Rattle.store_orders.specs.declared.fault.Fault.TheVariants.{Memory, Field}
 
--- what is exported of a document as it was when it had so many operations
-abbrev pub exported_past : List Op → ℕ → ℕ → Form → List ℕ
-exported_past list doc count form = exported form (spans (up_to list doc count) doc)
+-- the document has had so many operations, and these bytes are what is exported of it as it was then
+abbrev pub TellsPast : List Op → ℕ → ℕ → Form → List ℕ → Type 0
+TellsPast list doc count form bytes = (count ≤ rev list doc) × (bytes ≡ exported form (spans (up_to list doc count) doc))
 
 -- memory was refused, or the document has fewer operations
 abbrev pub RefusesPast : List Op → ℕ → ℕ → Fault → Type 0
@@ -27,7 +27,7 @@ pub record ShowsPast {D : Type 0} (facts : Ghosts D) (doc count : ℕ) (form : F
   pub looked : (failures : ℕ) × IsLookedAt facts failures 1 old new
   pub ok : facts.tells old
       → IfOk shown (λ lines. (replica version : ℕ) × (ops : List Op) × IsImage (facts.content old) replica version ops
-      × (lines.items ≡ exported_past ops doc count form))
+      × TellsPast ops doc count form lines.items)
   pub err : facts.tells old
       → IfErr shown (λ fault. Refuses fault (facts.content old)
       ⊎ ((replica version : ℕ) × (ops : List Op) × IsImage (facts.content old) replica version ops × RefusesPast ops doc count fault))

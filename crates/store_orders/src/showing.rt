@@ -7,7 +7,7 @@ ghost use Rattle.file_listing.specs.Listing.{said_listing};
 ghost use Rattle.recovery.specs.Faults.{number_of as number_of_open};
 ghost use Rattle.span_export.specs.Exported.{exported};
 ghost use Rattle.store_orders.specs.Ends.{number_of};
-ghost use Rattle.store_orders.specs.Past.{exported_past, RefusesPast, ShowsPast};
+ghost use Rattle.store_orders.specs.Past.{RefusesPast, ShowsPast, TellsPast};
 ghost use Rattle.store_orders.specs.Shown.{said_document, Shows};
 ghost use Rattle.store_orders.specs.declared.fault.Fault.TheVariants.{Memory};
 
@@ -139,8 +139,7 @@ fn document_past(
     rev: u32,
     form: Form,
 ) -> Result<Vec<u8>, Fault>
-    ensures ok { IfOk result
-        (λ bytes. bytes.items ≡ exported_past replica.now.list doc rev form) }
+    ensures ok { IfOk result (λ bytes. TellsPast replica.now.list doc rev form bytes.items) }
     ensures err { IfErr result (RefusesPast replica.now.list doc rev) }
 {
     let Some(spans) = replica.spans_at(doc, rev as usize)? else {

@@ -85,7 +85,6 @@ const OF_THE_SECOND: [(&str, &str); 13] = [
 const DOCUMENT_BA: &str =
     "{\"documents\":[{\"chars\":2,\"doc\":1,\"ops\":2,\"writers\":[\"00000000-0000-4000-8000-000000000001\"]}],\"ok\":true}";
 
-/// The document as it was, and its versions.
 const PAST_BA: &str =
     "{\"op\":\"text\",\"doc\":1,\"at_rev\":1}\n{\"op\":\"spans\",\"doc\":1,\"at_rev\":3}\n{\"op\":\"versions\",\"doc\":1,\"every\":2}";
 
